@@ -15,11 +15,11 @@ use Rattle.ft_trace.specs.declared.Shape.{Shape}
 use Rattle.ft_trace.specs.declared.Snap.{Snap}
 use Rattle.ft_trace.specs.declared.View.{View}
 use Rattle.ft_trace.specs.Bits.{bit, bit_on, bit_off}
-use Rattle.ft_trace.specs.Addresses.{container_count, class_of, number_of, free_word_of, free_bit_of, tables_in, bits, cell, extent, IsTableName}
+use Rattle.ft_trace.specs.Addresses.{container_count, class_of, number_of, free_word_of, free_bit_of, tables_in, bits, cell, box_word, extent, IsTableName}
 use Rattle.ft_trace.specs.Ages.{age}
 use Rattle.ft_trace.specs.Pictures.{table_words}
 use Rattle.ft_trace.specs.Acts.{clear, place, has_lock, has_lock_next, is_writing_next, has_committed_next, has_emptied_next, stage, stage_next, used_next, debt_next, announces_next, left_next, entries_next, flight, owes, view_after}
-use Rattle.ft_trace.specs.Holds.{held_words, known_state, in_hand}
+use Rattle.ft_trace.specs.Holds.{in_hand}
 use Rattle.ft_trace.specs.Traces.{Event, did, run, word, writes_of, history, IsAllShut, May, Ready, ReadyAs}
 use Rattle.ft_trace.specs.ContainerStates.{container_after}
 use Rattle.ft_trace.proofs.Addresses.{class_of_number, number_of_number, at_low}
@@ -39,7 +39,9 @@ use Rattle.ft_bank.specs.TableNames.{table_id, IsTableIn}
 use Rattle.ft_bank.specs.declared.takings.Search.{Search}
 use Rattle.ft_bank.specs.declared.takings.Search.TheVariants as search
 use Rattle.ft_bank.specs.Takings.{KeepsHeld, KeepsBut, Each, NotTable, IsShutIn, IsUnclaimed, MayGive, HasFound, IsSearch, IsBitCleared, Cleared, word_of_class, loads_of_none}
+use Rattle.ft_bank.specs.Locks.{KnowsSame}
 use Rattle.ft_bank.proofs.Allowed.{acted_knows}
+use Rattle.ft_bank.proofs.BoxedSteps.{LeavesBoxes, unboxed_stays, same_boxes, boxes_same, boxes_then}
 use Rattle.ft_bank.proofs.TableAddresses.{named}
 
 -- ---- what stays
@@ -56,9 +58,11 @@ pub record IsAside (a : Act) : Type 0 where
   pub writes : (cs : List Call) → writes_of a cs ≡ cs
   pub apart : (k : Shape) (es : List Event) (o : ℕ) → Of k es o (place a) → ⊥
   pub inside : (t i : ℕ) → place a ≢ cell t i
+  pub boxes : LeavesBoxes a
+  pub box : (b i : ℕ) → place a ≢ box_word b i
 
 module _ (F : ℕ → Type 0) (v : View) (a : Act) (aside : IsAside a) (same : (t n : ℕ) → F t → stage_next t a n ≡ n) (d : Acted v a) where
-  words_keep : (o : ℕ) → o < container_count v.shape → has_lock o v.log ≡ true → (held_words o (view_after a v) ≡ held_words o v) × (known_state o (view_after a v) ≡ known_state o v)
+  words_keep : (o : ℕ) → o < container_count v.shape → has_lock o v.log ≡ true → KnowsSame o v (view_after a v)
   words_keep o low mine =
       let k = v.shape in
       let es = d.0 in
@@ -69,6 +73,7 @@ module _ (F : ℕ → Type 0) (v : View) (a : Act) (aside : IsAside a) (same : (
       let has : has_lock o w.log ≡ true = aside.lock o (has_lock o v.log) ∙ mine in (
         words_known w o low has now d.1 next ∙ (still.picture ∙ sym (words_known v o low mine es d.1 (d.2.0, d.2.1.0))),
         content_known w o has now d.1 next ∙ (still.content ∙ sym (content_known v o mine es d.1 (d.2.0, d.2.1.0))),
+        unboxed_stays v a o low d mine has still.picture,
       )
 
   hand_keeps : (t : ℕ) → F t → IsTableName v.shape t → stage t v.log ≡ 1 → in_hand t (view_after a v) ≡ in_hand t v
@@ -102,7 +107,7 @@ module _ (F : ℕ → Type 0) (v : View) (a : Act) (aside : IsAside a) (same : (
   }
 
   pub keeps_but : ((n : ℕ) → announces_next a n ≡ n) → ((n : ℕ) → debt_next a n ≡ n) → KeepsBut F v (view_after a v)
-  keeps_but says owns = record { held = keeps_held; announces = says _; debt = owns _ }
+  keeps_but says owns = record { held = keeps_held; announces = says _; debt = owns _; boxes = same_boxes v a aside.boxes d aside.box }
 
 pub held_same : (F : ℕ → Type 0) (v : View) → KeepsHeld F v v
 held_same F v = record {
@@ -119,13 +124,13 @@ held_same F v = record {
   committed = λ o. refl;
   emptied = λ o. refl;
   used = refl;
-  words = λ o low mine. (refl, refl);
+  words = λ o low mine. (refl, refl, refl);
   stages = λ t of. refl;
   hands = λ t of table mine. refl;
 }
 
 pub but_same : (F : ℕ → Type 0) (v : View) → KeepsBut F v v
-but_same F v = record { held = held_same F v; announces = refl; debt = refl }
+but_same F v = record { held = held_same F v; announces = refl; debt = refl; boxes = boxes_same v }
 
 -- one after the other
 pub held_then : (F G : ℕ → Type 0) (u v w : View) → KeepsHeld F u v → KeepsHeld G v w → ((t : ℕ) → F t → G t) → KeepsHeld F u w
@@ -146,7 +151,7 @@ held_then F G u v w a b of = record {
   words = λ o low mine.
       let one = a.words o low mine in
       let two = b.words o (subst (λ (z : Shape). o < container_count z) (sym a.shape) low) (a.locks o ∙ mine) in
-      (two.0 ∙ one.0, two.1 ∙ one.1);
+      (two.0 ∙ one.0, two.1 ∙ one.1, two.2 ∙ one.2);
   stages = λ t is. b.stages t (of t is) ∙ a.stages t is;
   hands = λ t is table mine.
       b.hands t (of t is) (subst (λ (z : Shape). IsTableName z t) (sym a.shape) table) (a.stages t is ∙ mine) ∙ a.hands t is table mine;
@@ -157,6 +162,7 @@ but_then F G u v w a b of = record {
   held = held_then F G u v w a.held b.held of;
   announces = b.announces ∙ a.announces;
   debt = b.debt ∙ a.debt;
+  boxes = boxes_then u v w a.held.shape a.boxes b.boxes;
 }
 
 -- ---- the steps
@@ -173,6 +179,8 @@ lower_aside c old f = record {
   writes = λ cs. refl;
   apart = λ k es o z. z;
   inside = λ t' i e. absurd (cc);
+  boxes = record { lock = λ o b. refl; unput = λ z. z; references = λ k b n before after. refl; state = λ b n. refl; local = λ b n. refl; taken = λ b l n. refl; places = λ b n. refl };
+  box = λ b i e. absurd (cc);
 }
 
 pub lower_keeps : (v : View) (c old f : ℕ) → Acted v (LowerCount c old f) → KeepsBut Each v (view_after (LowerCount c old f) v)
@@ -190,6 +198,8 @@ raise_aside c f = record {
   writes = λ cs. refl;
   apart = λ k es o z. z;
   inside = λ t' i e. absurd (cc);
+  boxes = record { lock = λ o b. refl; unput = λ z. z; references = λ k b n before after. refl; state = λ b n. refl; local = λ b n. refl; taken = λ b l n. refl; places = λ b n. refl };
+  box = λ b i e. absurd (cc);
 }
 
 pub raise_keeps : (v : View) (c f : ℕ) → Acted v (RaiseCount c f) → KeepsBut Each v (view_after (RaiseCount c f) v)
@@ -207,6 +217,8 @@ count_aside c f = record {
   writes = λ cs. refl;
   apart = λ k es o z. z;
   inside = λ t' i e. absurd (cc);
+  boxes = record { lock = λ o b. refl; unput = λ z. z; references = λ k b n before after. refl; state = λ b n. refl; local = λ b n. refl; taken = λ b l n. refl; places = λ b n. refl };
+  box = λ b i e. absurd (cc);
 }
 
 pub count_keeps : (v : View) (c f : ℕ) → Acted v (ReadCount c f) → KeepsBut Each v (view_after (ReadCount c f) v)
@@ -224,6 +236,8 @@ free_aside w f = record {
   writes = λ cs. refl;
   apart = λ k es o z. z;
   inside = λ t' i e. absurd (cc);
+  boxes = record { lock = λ o b. refl; unput = λ z. z; references = λ k b n before after. refl; state = λ b n. refl; local = λ b n. refl; taken = λ b l n. refl; places = λ b n. refl };
+  box = λ b i e. absurd (cc);
 }
 
 pub free_keeps : (v : View) (w f : ℕ) → Acted v (ReadFree w f) → KeepsBut Each v (view_after (ReadFree w f) v)
@@ -241,6 +255,8 @@ take_aside t f s = record {
   writes = λ cs. refl;
   apart = λ k es o z. z;
   inside = λ t' i e. absurd (cc);
+  boxes = record { lock = λ o b. refl; unput = λ z. z; references = λ k b n before after. refl; state = λ b n. refl; local = λ b n. refl; taken = λ b l n. refl; places = λ b n. refl };
+  box = λ b i e. absurd (cc);
 }
 
 pub take_keeps : (v : View) (q : Table) (f : ℕ) (s : Snap) → Acted v (TakeTable (table_id q) f s) → KeepsBut (NotTable q) v (view_after (TakeTable (table_id q) f s) v)
@@ -266,6 +282,8 @@ give_aside t = record {
   writes = λ cs. refl;
   apart = λ k es o z. z;
   inside = λ t' i e. absurd (cc);
+  boxes = record { lock = λ o b. refl; unput = λ z. z; references = λ k b n before after. refl; state = λ b n. refl; local = λ b n. refl; taken = λ b l n. refl; places = λ b n. refl };
+  box = λ b i e. absurd (cc);
 }
 
 pub give_keeps : (v : View) (q : Table) → Acted v (GiveTable (table_id q)) → KeepsBut (NotTable q) v (view_after (GiveTable (table_id q)) v)

@@ -13,8 +13,9 @@ use Rattle.ft_trace.specs.Causes.{Loaded}
 use Rattle.ft_trace.specs.LoggedLookUps.{IsNew}
 use Rattle.ft_trace.specs.Pictures.{ContainerWords, root_in, picture, Represents}
 use Rattle.ft_trace.specs.ContainerStates.{container_after}
-use Rattle.ft_trace.specs.Holds.{held_words, known_state, in_hand}
+use Rattle.ft_trace.specs.Holds.{held_words, held_unboxed, known_state, in_hand}
 use Rattle.ft_trace.specs.Traces.{Event, did, run, word, Valid, Sure}
+use Rattle.ft_trace.specs.Unboxed.{unboxed_picture}
 use Rattle.ft_trace.proofs.Cases.{hit, not_true}
 use Rattle.ft_trace.proofs.Seats.{same_seat, holder_lives}
 use Rattle.ft_trace.proofs.Locks.{holder, names}
@@ -27,11 +28,13 @@ use Rattle.ft_trace.proofs.Contents.{unwritten}
 use Rattle.ft_trace.proofs.EarlierMoments.{was}
 use Rattle.ft_trace.proofs.RisingStamps.{counter_rises}
 use Rattle.ft_trace.proofs.Anew.{found_table, is_new}
-use Rattle.ft_trace.proofs.Held.{words_known, content_known, hand_known, table_known, held_stands}
+use Rattle.ft_trace.proofs.Images.{IsInHand}
+use Rattle.ft_trace.proofs.Held.{words_known, content_known, read_known, own_table_known, table_known, held_stands}
 use Rattle.ft_bank.specs.Rules.{Acted}
 use Rattle.ft_bank.specs.Locks.{KeepsOthers}
 use Rattle.ft_bank.specs.WriteSteps.{KeepsUnwritten}
 use Rattle.ft_bank.proofs.Allowed.{acted_possible, acted_knows}
+use Rattle.ft_bank.proofs.BoxedSteps.{unboxed_stays}
 
 -- a lock word that isn't 0 is the number of another pass
 pub other_pass : (v : View) (o f : ℕ) (s : Snap) → o < container_count v.shape → has_lock o v.log ≡ false → f ≢ 0 → Acted v (Lock o f s) → (f ≢ v.number) × (f ≤ v.shape.passes) × (f ≤ 64)
@@ -54,7 +57,7 @@ other_pass v o f s low free some_one d =
     )
 
 -- with the lock the pass knows words that stand for what it knows of the content
-pub lock_stands : (v : View) (o : ℕ) (s : Snap) → o < container_count v.shape → has_lock o v.log ≡ false → Acted v (Lock o 0 s) → Represents v.shape.texts (held_words o (view_after (Lock o 0 s) v)) (known_state o (view_after (Lock o 0 s) v))
+pub lock_stands : (v : View) (o : ℕ) (s : Snap) → o < container_count v.shape → has_lock o v.log ≡ false → Acted v (Lock o 0 s) → Represents v.shape.texts (held_unboxed o (view_after (Lock o 0 s) v)) (known_state o (view_after (Lock o 0 s) v))
 lock_stands v o s low free d =
     let quiet : is_writing o v.log ≡ false = not_true (is_writing o v.log) (λ w. true≢false (sym (writer_has v.shape d.0 d.2.0 o d.1 v d.2.1.0 w) ∙ free)) in
     held_stands (view_after (Lock o 0 s) v) o low (acted_possible v (Lock o 0 s) d) (hit o true (has_lock o v.log)) quiet
@@ -66,6 +69,7 @@ lock_keeps v o f s d p low other mine =
     let is = d.2.1.3.2 in (
       ap (λ (z : Snap). picture k p z.words) is ∙ sym (words_known v p low mine d.0 d.1 (d.2.0, d.2.1.0)),
       ap (λ (z : Snap). container_after k.starts z.calls p) is ∙ sym (content_known v p mine d.0 d.1 (d.2.0, d.2.1.0)),
+      ap (λ (z : Snap). unboxed_picture k p z.words) is ∙ sym (read_known v p low mine d.0 d.1 (d.2.0, d.2.1.0)),
     )
 
 -- a load with the lock finds what the pass knows
@@ -100,18 +104,19 @@ left_low v a d =
     let l = left_total v.shape d.0 d.2.0 in
     omega (arith, t, l)
 
--- a load of a word of the table of a container whose lock the pass has, or of a table fresh in its hand
+-- a load of a word of the table of a container whose lock the pass has, or of a table in its hand: one that is fresh, or
+-- that it took out of a root and hasn't retired
 pub table_found : (v : View) (o t i n : ℕ) → o < container_count v.shape → i < size (class_of t) → has_lock o v.log ≡ true → root_in (held_words o v) ≡ suc t → Acted v (ReadTable t i n) → n ≡ slice_index (held_words o v).table i
 table_found v o t i n low small mine names d =
     let k = v.shape in
     let is : n ≡ word k d.0 (cell t i) = d.2.1.2 in
     is ∙ (sym (table_at k t (run k d.0).words i small) ∙ ap (λ (x : List ℕ). slice_index x i) (sym (table_known v o low t mine names d.0 d.1 (d.2.0, d.2.1.0)).0))
 
-pub fresh_found : (v : View) (t i n : ℕ) → IsTableName v.shape t → i < size (class_of t) → stage t v.log ≡ 1 → Acted v (ReadTable t i n) → n ≡ slice_index (in_hand t v) i
-fresh_found v t i n table small mine d =
+pub hand_found : (v : View) (t i n : ℕ) → IsTableName v.shape t → i < size (class_of t) → IsInHand (stage t v.log) → Acted v (ReadTable t i n) → n ≡ slice_index (in_hand t v) i
+hand_found v t i n table small mine d =
     let k = v.shape in
     let is : n ≡ word k d.0 (cell t i) = d.2.1.2 in
-    is ∙ (sym (table_at k t (run k d.0).words i small) ∙ ap (λ (x : List ℕ). slice_index x i) (sym (hand_known v t table mine d.0 d.1 (d.2.0, d.2.1.0))))
+    is ∙ (sym (table_at k t (run k d.0).words i small) ∙ ap (λ (x : List ℕ). slice_index x i) (sym (own_table_known v t table mine d.0 d.1 (d.2.0, d.2.1.0))))
 
 -- what a pass does leaves what it knows of the containers that it has and doesn't write
 pub keeps_unwritten : (v : View) (a : Act) → ((p : ℕ) (b : Bool) → has_lock_next p a b ≡ b) → Acted v a → KeepsUnwritten v (view_after a v)
@@ -125,4 +130,5 @@ keeps_unwritten v a locks d p low mine quiet =
     let has : has_lock p w.log ≡ true = locks p (has_lock p v.log) ∙ mine in (
       words_known w p low has now d.1 next ∙ (still.picture ∙ sym (words_known v p low mine es d.1 (d.2.0, d.2.1.0))),
       content_known w p has now d.1 next ∙ (still.content ∙ sym (content_known v p mine es d.1 (d.2.0, d.2.1.0))),
+      unboxed_stays v a p low d mine has still.picture,
     )

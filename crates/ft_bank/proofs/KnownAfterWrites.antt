@@ -13,15 +13,19 @@ use Rattle.ft_trace.specs.declared.Shape.{Shape}
 use Rattle.ft_trace.specs.declared.View.{View}
 use Rattle.ft_trace.specs.Addresses.{container_count}
 use Rattle.ft_trace.specs.Acts.{is_writing, stage, debt, mem, view_after, shown, seen_writes, presence_after_entry}
-use Rattle.ft_trace.specs.ContainerStates.{container_after, changes, kinds_in}
+use Rattle.ft_trace.specs.Boxes.{references_held}
+use Rattle.ft_trace.specs.ContainerStates.{container_after, changes, kind_in, kinds_in}
 use Rattle.ft_trace.specs.Pictures.{picture, root_in, Represents}
-use Rattle.ft_trace.specs.Holds.{held_words, known_state}
+use Rattle.ft_trace.specs.Holds.{held_words, held_unboxed, known_state}
 use Rattle.ft_bank.specs.WriteSteps.{Committed, KeepsUnwritten}
 use Rattle.ft_trace.proofs.Cases.{hit, miss}
 use Rattle.ft_trace.proofs.Owning.{owners_then}
 use Rattle.ft_trace.proofs.Seeing.{seen_up}
 use Rattle.ft_trace.proofs.Untouched.{untouched_in}
-use Rattle.ft_bank.specs.Whole.{SamePass, SameWork, OnlyLoaded, OnlyPut, EndsWrite, Wrote, hand_after, debt_after, write_entry}
+use Rattle.ft_trace.proofs.BoxKnown.{sure_after, sure_keeps}
+use Rattle.ft_bank.specs.SameBoxes.{named_in_words, MovesReferences, SameBoxes, SameMade}
+use Rattle.ft_bank.proofs.BoxedSteps.{made_same, made_then, boxes_then}
+use Rattle.ft_bank.specs.Whole.{SamePass, SameWork, OnlyBoxed, OnlyLoaded, OnlyPut, OnlyWritten, EndsWrite, Wrote, hand_after, debt_after, write_entry}
 
 -- ---- loads and puts
 
@@ -38,14 +42,14 @@ IsCalm (PutFresh t i x) = Unit {0}
 IsCalm act = ⊥
 
 pub calm : (a : Act) (v : View) → IsCalm a → SameWork v (view_after a v)
-calm (Version o f) v ok = record { pass = record { number = refl; next = refl; parts = refl; shape = refl; locks = λ p. refl; writes = λ p. refl; announced = refl; flight = refl; begun = refl; cursors = λ n. refl; tokens = refl; learnt = refl; lists = refl; floor = refl; since = refl; owners = record { had = refl; found = refl }; seen = le_refl (seen_writes v); grown = λ old was. inr was; stays_online = λ is. is }; left = refl; entries = refl; committed = λ p. refl; emptied = λ p. refl; hands = λ t. refl; used = refl; debt = refl; owes = refl; past = refl; presence = refl }
-calm (ReadBlock o i f) v ok = record { pass = record { number = refl; next = refl; parts = refl; shape = refl; locks = λ p. refl; writes = λ p. refl; announced = refl; flight = refl; begun = refl; cursors = λ n. refl; tokens = refl; learnt = refl; lists = refl; floor = refl; since = refl; owners = record { had = refl; found = refl }; seen = le_refl (seen_writes v); grown = λ old was. inr was; stays_online = λ is. is }; left = refl; entries = refl; committed = λ p. refl; emptied = λ p. refl; hands = λ t. refl; used = refl; debt = refl; owes = refl; past = refl; presence = refl }
-calm (ReadTable t i f) v ok = record { pass = record { number = refl; next = refl; parts = refl; shape = refl; locks = λ p. refl; writes = λ p. refl; announced = refl; flight = refl; begun = refl; cursors = λ n. refl; tokens = refl; learnt = refl; lists = refl; floor = refl; since = refl; owners = record { had = refl; found = refl }; seen = le_refl (seen_writes v); grown = λ old was. inr was; stays_online = λ is. is }; left = refl; entries = refl; committed = λ p. refl; emptied = λ p. refl; hands = λ t. refl; used = refl; debt = refl; owes = refl; past = refl; presence = refl }
-calm (ReadCounter f) v ok = record { pass = record { number = refl; next = refl; parts = refl; shape = refl; locks = λ p. refl; writes = λ p. refl; announced = refl; flight = refl; begun = refl; cursors = λ n. refl; tokens = refl; learnt = refl; lists = refl; floor = refl; since = refl; owners = record { had = refl; found = refl }; seen = seen_up (ReadCounter f) v; grown = λ old was. inr was; stays_online = λ is. is }; left = refl; entries = refl; committed = λ p. refl; emptied = λ p. refl; hands = λ t. refl; used = refl; debt = refl; owes = refl; past = refl; presence = refl }
-calm (ReadRoot o f) v ok = record { pass = record { number = refl; next = refl; parts = refl; shape = refl; locks = λ p. refl; writes = λ p. refl; announced = refl; flight = refl; begun = refl; cursors = λ n. refl; tokens = refl; learnt = refl; lists = refl; floor = refl; since = refl; owners = record { had = refl; found = refl }; seen = le_refl (seen_writes v); grown = λ old was. inr was; stays_online = λ is. is }; left = refl; entries = refl; committed = λ p. refl; emptied = λ p. refl; hands = λ t. refl; used = refl; debt = refl; owes = refl; past = refl; presence = refl }
-calm (PutBlock o i x) v ok = record { pass = record { number = refl; next = refl; parts = refl; shape = refl; locks = λ p. refl; writes = λ p. refl; announced = refl; flight = refl; begun = refl; cursors = λ n. refl; tokens = refl; learnt = refl; lists = refl; floor = refl; since = refl; owners = record { had = refl; found = refl }; seen = le_refl (seen_writes v); grown = λ old was. inr was; stays_online = λ is. is }; left = refl; entries = refl; committed = λ p. refl; emptied = λ p. refl; hands = λ t. refl; used = refl; debt = refl; owes = refl; past = refl; presence = refl }
-calm (PutTable o t i x) v ok = record { pass = record { number = refl; next = refl; parts = refl; shape = refl; locks = λ p. refl; writes = λ p. refl; announced = refl; flight = refl; begun = refl; cursors = λ n. refl; tokens = refl; learnt = refl; lists = refl; floor = refl; since = refl; owners = record { had = refl; found = refl }; seen = le_refl (seen_writes v); grown = λ old was. inr was; stays_online = λ is. is }; left = refl; entries = refl; committed = λ p. refl; emptied = λ p. refl; hands = λ t. refl; used = refl; debt = refl; owes = refl; past = refl; presence = refl }
-calm (PutFresh t i x) v ok = record { pass = record { number = refl; next = refl; parts = refl; shape = refl; locks = λ p. refl; writes = λ p. refl; announced = refl; flight = refl; begun = refl; cursors = λ n. refl; tokens = refl; learnt = refl; lists = refl; floor = refl; since = refl; owners = record { had = refl; found = refl }; seen = le_refl (seen_writes v); grown = λ old was. inr was; stays_online = λ is. is }; left = refl; entries = refl; committed = λ p. refl; emptied = λ p. refl; hands = λ t. refl; used = refl; debt = refl; owes = refl; past = refl; presence = refl }
+calm (Version o f) v ok = record { pass = record { number = refl; next = refl; parts = refl; shape = refl; locks = λ p. refl; writes = λ p. refl; announced = refl; flight = refl; begun = refl; cursors = λ n. refl; tokens = refl; learnt = refl; lists = refl; floor = refl; since = refl; owners = record { had = refl; found = refl }; seen = le_refl (seen_writes v); grown = λ old was. inr was; stays_online = λ is. is }; left = refl; entries = refl; committed = λ p. refl; emptied = λ p. refl; hands = λ t. refl; used = refl; debt = refl; owes = refl; past = refl; presence = refl; tables = refl }
+calm (ReadBlock o i f) v ok = record { pass = record { number = refl; next = refl; parts = refl; shape = refl; locks = λ p. refl; writes = λ p. refl; announced = refl; flight = refl; begun = refl; cursors = λ n. refl; tokens = refl; learnt = refl; lists = refl; floor = refl; since = refl; owners = record { had = refl; found = refl }; seen = le_refl (seen_writes v); grown = λ old was. inr was; stays_online = λ is. is }; left = refl; entries = refl; committed = λ p. refl; emptied = λ p. refl; hands = λ t. refl; used = refl; debt = refl; owes = refl; past = refl; presence = refl; tables = refl }
+calm (ReadTable t i f) v ok = record { pass = record { number = refl; next = refl; parts = refl; shape = refl; locks = λ p. refl; writes = λ p. refl; announced = refl; flight = refl; begun = refl; cursors = λ n. refl; tokens = refl; learnt = refl; lists = refl; floor = refl; since = refl; owners = record { had = refl; found = refl }; seen = le_refl (seen_writes v); grown = λ old was. inr was; stays_online = λ is. is }; left = refl; entries = refl; committed = λ p. refl; emptied = λ p. refl; hands = λ t. refl; used = refl; debt = refl; owes = refl; past = refl; presence = refl; tables = refl }
+calm (ReadCounter f) v ok = record { pass = record { number = refl; next = refl; parts = refl; shape = refl; locks = λ p. refl; writes = λ p. refl; announced = refl; flight = refl; begun = refl; cursors = λ n. refl; tokens = refl; learnt = refl; lists = refl; floor = refl; since = refl; owners = record { had = refl; found = refl }; seen = seen_up (ReadCounter f) v; grown = λ old was. inr was; stays_online = λ is. is }; left = refl; entries = refl; committed = λ p. refl; emptied = λ p. refl; hands = λ t. refl; used = refl; debt = refl; owes = refl; past = refl; presence = refl; tables = refl }
+calm (ReadRoot o f) v ok = record { pass = record { number = refl; next = refl; parts = refl; shape = refl; locks = λ p. refl; writes = λ p. refl; announced = refl; flight = refl; begun = refl; cursors = λ n. refl; tokens = refl; learnt = refl; lists = refl; floor = refl; since = refl; owners = record { had = refl; found = refl }; seen = le_refl (seen_writes v); grown = λ old was. inr was; stays_online = λ is. is }; left = refl; entries = refl; committed = λ p. refl; emptied = λ p. refl; hands = λ t. refl; used = refl; debt = refl; owes = refl; past = refl; presence = refl; tables = refl }
+calm (PutBlock o i x) v ok = record { pass = record { number = refl; next = refl; parts = refl; shape = refl; locks = λ p. refl; writes = λ p. refl; announced = refl; flight = refl; begun = refl; cursors = λ n. refl; tokens = refl; learnt = refl; lists = refl; floor = refl; since = refl; owners = record { had = refl; found = refl }; seen = le_refl (seen_writes v); grown = λ old was. inr was; stays_online = λ is. is }; left = refl; entries = refl; committed = λ p. refl; emptied = λ p. refl; hands = λ t. refl; used = refl; debt = refl; owes = refl; past = refl; presence = refl; tables = refl }
+calm (PutTable o t i x) v ok = record { pass = record { number = refl; next = refl; parts = refl; shape = refl; locks = λ p. refl; writes = λ p. refl; announced = refl; flight = refl; begun = refl; cursors = λ n. refl; tokens = refl; learnt = refl; lists = refl; floor = refl; since = refl; owners = record { had = refl; found = refl }; seen = le_refl (seen_writes v); grown = λ old was. inr was; stays_online = λ is. is }; left = refl; entries = refl; committed = λ p. refl; emptied = λ p. refl; hands = λ t. refl; used = refl; debt = refl; owes = refl; past = refl; presence = refl; tables = refl }
+calm (PutFresh t i x) v ok = record { pass = record { number = refl; next = refl; parts = refl; shape = refl; locks = λ p. refl; writes = λ p. refl; announced = refl; flight = refl; begun = refl; cursors = λ n. refl; tokens = refl; learnt = refl; lists = refl; floor = refl; since = refl; owners = record { had = refl; found = refl }; seen = le_refl (seen_writes v); grown = λ old was. inr was; stays_online = λ is. is }; left = refl; entries = refl; committed = λ p. refl; emptied = λ p. refl; hands = λ t. refl; used = refl; debt = refl; owes = refl; past = refl; presence = refl; tables = refl }
 calm a v ok = absurd ok
 
 -- a load
@@ -57,12 +61,21 @@ IsLoad (ReadCounter f) = Unit {0}
 IsLoad (ReadRoot o f) = Unit {0}
 IsLoad act = ⊥
 
+-- what a pass knows of a box it knows after a load of another word
+load_boxes : (a : Act) (v : View) → IsLoad a → SameBoxes v (view_after a v)
+load_boxes (Version o f) v ok = record { references = λ b. refl; made = record { state = λ b. refl; local = λ b. refl; taken = λ b. refl; places = λ b. refl }; knows = λ b i is which su. (sure_after v.shape b i (Version o f) v.log (sure_keeps v.shape b i v.log su) su, refl) }
+load_boxes (ReadBlock o i f) v ok = record { references = λ b. refl; made = record { state = λ b. refl; local = λ b. refl; taken = λ b. refl; places = λ b. refl }; knows = λ b i is which su. (sure_after v.shape b i (ReadBlock o i f) v.log (sure_keeps v.shape b i v.log su) su, refl) }
+load_boxes (ReadTable t i f) v ok = record { references = λ b. refl; made = record { state = λ b. refl; local = λ b. refl; taken = λ b. refl; places = λ b. refl }; knows = λ b i is which su. (sure_after v.shape b i (ReadTable t i f) v.log (sure_keeps v.shape b i v.log su) su, refl) }
+load_boxes (ReadCounter f) v ok = record { references = λ b. refl; made = record { state = λ b. refl; local = λ b. refl; taken = λ b. refl; places = λ b. refl }; knows = λ b i is which su. (sure_after v.shape b i (ReadCounter f) v.log (sure_keeps v.shape b i v.log su) su, refl) }
+load_boxes (ReadRoot o f) v ok = record { references = λ b. refl; made = record { state = λ b. refl; local = λ b. refl; taken = λ b. refl; places = λ b. refl }; knows = λ b i is which su. (sure_after v.shape b i (ReadRoot o f) v.log (sure_keeps v.shape b i v.log su) su, refl) }
+load_boxes a v ok = absurd ok
+
 load_only : (a : Act) (v : View) → IsLoad a → OnlyLoaded v (view_after a v)
-load_only (Version o f) v ok = record { work = calm (Version o f) v tt; words = refl }
-load_only (ReadBlock o i f) v ok = record { work = calm (ReadBlock o i f) v tt; words = refl }
-load_only (ReadTable t i f) v ok = record { work = calm (ReadTable t i f) v tt; words = refl }
-load_only (ReadCounter f) v ok = record { work = calm (ReadCounter f) v tt; words = refl }
-load_only (ReadRoot o f) v ok = record { work = calm (ReadRoot o f) v tt; words = refl }
+load_only (Version o f) v ok = record { work = calm (Version o f) v tt; words = refl; unboxed = λ p low mine. refl; boxes = load_boxes (Version o f) v tt }
+load_only (ReadBlock o i f) v ok = record { work = calm (ReadBlock o i f) v tt; words = refl; unboxed = λ p low mine. refl; boxes = load_boxes (ReadBlock o i f) v tt }
+load_only (ReadTable t i f) v ok = record { work = calm (ReadTable t i f) v tt; words = refl; unboxed = λ p low mine. refl; boxes = load_boxes (ReadTable t i f) v tt }
+load_only (ReadCounter f) v ok = record { work = calm (ReadCounter f) v tt; words = refl; unboxed = λ p low mine. refl; boxes = load_boxes (ReadCounter f) v tt }
+load_only (ReadRoot o f) v ok = record { work = calm (ReadRoot o f) v tt; words = refl; unboxed = λ p low mine. refl; boxes = load_boxes (ReadRoot o f) v tt }
 load_only a v ok = absurd ok
 
 pub loaded_by : (a : Act) (v w : View) → IsLoad a → w ≡ view_after a v → OnlyLoaded v w
@@ -72,7 +85,10 @@ pub same_pass : (v : View) → SamePass v v
 same_pass v = record { number = refl; next = refl; parts = refl; shape = refl; locks = λ p. refl; writes = λ p. refl; announced = refl; flight = refl; begun = refl; cursors = λ n. refl; tokens = refl; learnt = refl; lists = refl; floor = refl; since = refl; owners = record { had = refl; found = refl }; seen = le_refl (seen_writes v); grown = λ old was. was; stays_online = λ is. is }
 
 pub same_work : (v : View) → SameWork v v
-same_work v = record { pass = same_pass v; left = refl; entries = refl; committed = λ p. refl; emptied = λ p. refl; hands = λ t. refl; used = refl; debt = refl; owes = refl; past = refl; presence = refl }
+same_work v = record { pass = same_pass v; left = refl; entries = refl; committed = λ p. refl; emptied = λ p. refl; hands = λ t. refl; used = refl; debt = refl; owes = refl; past = refl; presence = refl; tables = refl }
+
+pub moves_then : (o : ℕ) (u v w : View) → MovesReferences o u v → MovesReferences o v w → MovesReferences o u w
+moves_then o u v w a b x = b x ∙ a x
 
 module _ (u v w : View) where
   pub pass_then : SamePass u v → SamePass v w → SamePass u w
@@ -111,20 +127,62 @@ module _ (u v w : View) where
     owes = b.owes ∙ a.owes;
     past = b.past ∙ a.past;
     presence = b.presence ∙ a.presence;
+    tables = b.tables ∙ a.tables;
   }
 
   pub loaded_then : OnlyLoaded u v → OnlyLoaded v w → OnlyLoaded u w
   loaded_then a b = record {
     work = work_then a.work b.work;
     words = ap (λ (k : Shape). mem k w.log) (sym a.work.pass.shape) ∙ (b.words ∙ (ap (λ (k : Shape). mem k v.log) a.work.pass.shape ∙ a.words));
+    unboxed = λ p low mine. b.unboxed p (subst (λ (k : Shape). p < container_count k) (sym a.work.pass.shape) low) (a.work.pass.locks p ∙ mine) ∙ a.unboxed p low mine;
+    boxes = boxes_then u v w a.work.pass.shape a.boxes b.boxes;
+  }
+
+  pub boxed_then : OnlyBoxed u v → OnlyBoxed v w → OnlyBoxed u w
+  boxed_then a b = record {
+    work = work_then a.work b.work;
+    words = ap (λ (k : Shape). mem k w.log) (sym a.work.pass.shape) ∙ (b.words ∙ (ap (λ (k : Shape). mem k v.log) a.work.pass.shape ∙ a.words));
+    unboxed = λ p low mine. b.unboxed p (subst (λ (k : Shape). p < container_count k) (sym a.work.pass.shape) low) (a.work.pass.locks p ∙ mine) ∙ a.unboxed p low mine;
   }
 
   pub put_then : (o : ℕ) → OnlyPut o u v → OnlyPut o v w → OnlyPut o u w
   put_then o a b = record {
     work = work_then a.work b.work;
+    made = made_then u v w a.made b.made;
+    moves = moves_then o u v w a.moves b.moves;
     others = λ p low ne mine quiet.
-        b.others p (subst (λ (k : Shape). p < container_count k) (sym a.work.pass.shape) low) ne (a.work.pass.locks p ∙ mine) (a.work.pass.writes p ∙ quiet)
-        ∙ a.others p low ne mine quiet;
+        let one = a.others p low ne mine quiet in
+        let two = b.others p (subst (λ (k : Shape). p < container_count k) (sym a.work.pass.shape) low) ne (a.work.pass.locks p ∙ mine) (a.work.pass.writes p ∙ quiet) in
+        (two.0 ∙ one.0, two.1 ∙ one.1);
+  }
+
+module _ (o : ℕ) where
+  -- a put is such a step, and so is one with boxes that leaves those that the pass made
+  pub put_written : (v w : View) → OnlyPut o v w → OnlyWritten o v w
+  put_written v w a = record { work = a.work; made = a.made; loses = λ b. subst (λ (n : ℕ). n ≤ references_held v.shape b v.log + named_in_words b (kind_in v.shape.starts o) (held_words o v)) (sym (a.moves b)) (le_refl _); others = a.others }
+
+  pub boxed_written : (v w : View) → OnlyBoxed v w → SameMade v w → ((b : ℕ) → references_held w.shape b w.log ≤ references_held v.shape b v.log) → OnlyWritten o v w
+  boxed_written v w a made fewer = record {
+    work = a.work;
+    made = made;
+    loses = λ b.
+        let less = fewer b in
+        let shape = a.work.pass.shape in
+        let same : named_in_words b (kind_in w.shape.starts o) (held_words o w) ≡ named_in_words b (kind_in v.shape.starts o) (held_words o v) =
+        λ d. named_in_words b (kind_in (shape d).starts o) ((ap (λ (k : Shape). picture k o (mem k w.log)) shape ∙ ap (λ (ws : List ℕ). picture v.shape o ws) a.words) d) in
+        omega (arith, less, same);
+    others = λ p low ne mine quiet. (ap (λ (k : Shape). picture k p (mem k w.log)) a.work.pass.shape ∙ ap (λ (ws : List ℕ). picture v.shape p ws) a.words, a.unboxed p low mine);
+  }
+
+  pub written_then : (u v w : View) → OnlyWritten o u v → OnlyWritten o v w → OnlyWritten o u w
+  written_then u v w a b = record {
+    work = work_then u v w a.work b.work;
+    made = made_then u v w a.made b.made;
+    loses = λ c. le_trans (b.loses c) (a.loses c);
+    others = λ p low ne mine quiet.
+        let one = a.others p low ne mine quiet in
+        let two = b.others p (subst (λ (k : Shape). p < container_count k) (sym a.work.pass.shape) low) ne (a.work.pass.locks p ∙ mine) (a.work.pass.writes p ∙ quiet) in
+        (two.0 ∙ one.0, two.1 ∙ one.1);
   }
 
 -- what a pass knows of a content is the same
@@ -135,16 +193,33 @@ pub loaded_held : (v w : View) (p : ℕ) → OnlyLoaded v w → held_words p w �
 loaded_held v w p a = ap (λ (k : Shape). picture k p (mem k w.log)) a.work.pass.shape ∙ ap (λ (ws : List ℕ). picture v.shape p ws) a.words
 
 pub put_same : (v : View) (o : ℕ) → OnlyPut o v v
-put_same v o = record { work = same_work v; others = λ p low ne mine quiet. refl }
+put_same v o = record { work = same_work v; made = made_same v; moves = λ b. refl; others = λ p low ne mine quiet. (refl, refl) }
 
 pub loaded_put : (v w : View) (o : ℕ) → OnlyLoaded v w → OnlyPut o v w
-loaded_put v w o a = record { work = a.work; others = λ p low ne mine quiet. loaded_held v w p a }
+loaded_put v w o a = record { work = a.work; made = a.boxes.made; moves = λ b. (λ d. a.boxes.references b d + named_in_words b (kind_in (a.work.pass.shape d).starts o) (loaded_held v w o a d)); others = λ p low ne mine quiet. (loaded_held v w p a, a.unboxed p low mine) }
+
+pub loaded_boxed : (v w : View) → OnlyLoaded v w → OnlyBoxed v w
+loaded_boxed v w a = record { work = a.work; words = a.words; unboxed = a.unboxed }
+
+-- loads and puts take no step with boxes
+pub calm_made : (a : Act) (v : View) → IsCalm a → SameMade v (view_after a v)
+calm_made (Version o f) v ok = record { state = λ b. refl; local = λ b. refl; taken = λ b. refl; places = λ b. refl }
+calm_made (ReadBlock o i f) v ok = record { state = λ b. refl; local = λ b. refl; taken = λ b. refl; places = λ b. refl }
+calm_made (ReadTable t i f) v ok = record { state = λ b. refl; local = λ b. refl; taken = λ b. refl; places = λ b. refl }
+calm_made (ReadCounter f) v ok = record { state = λ b. refl; local = λ b. refl; taken = λ b. refl; places = λ b. refl }
+calm_made (ReadRoot o f) v ok = record { state = λ b. refl; local = λ b. refl; taken = λ b. refl; places = λ b. refl }
+calm_made (PutBlock o i x) v ok = record { state = λ b. refl; local = λ b. refl; taken = λ b. refl; places = λ b. refl }
+calm_made (PutTable o t i x) v ok = record { state = λ b. refl; local = λ b. refl; taken = λ b. refl; places = λ b. refl }
+calm_made (PutFresh t i x) v ok = record { state = λ b. refl; local = λ b. refl; taken = λ b. refl; places = λ b. refl }
+calm_made a v ok = absurd ok
 
 -- a put, which leaves what the pass knows of containers that it doesn't write
-pub put_by : (a : Act) (v w : View) (o : ℕ) → IsCalm a → w ≡ view_after a v → KeepsUnwritten v w → OnlyPut o v w
-put_by a v w o ok is keeps = record {
+pub put_by : (a : Act) (v w : View) (o : ℕ) → IsCalm a → w ≡ view_after a v → KeepsUnwritten v w → MovesReferences o v w → OnlyPut o v w
+put_by a v w o ok is keeps moves = record {
   work = subst (SameWork v) (sym is) (calm a v ok);
-  others = λ p low ne mine quiet. (keeps p low mine quiet).0;
+  made = subst (SameMade v) (sym is) (calm_made a v ok);
+  moves = moves;
+  others = λ p low ne mine quiet. let e = keeps p low mine quiet in (e.0, e.2);
 }
 
 -- ---- whole writes
@@ -164,7 +239,7 @@ module _ (called : Call) (said : Reply) (number g : ℕ) (snap : Snap) (u c z w 
   others_stop : (p : ℕ) → p ≢ o → is_writing p done.log ≡ is_writing p z.log
   others_stop p ne = miss o p false (is_writing p z.log) (λ e. ne (sym e))
 
-  ends_at : seen_writes u ≤ number → OnlyPut o made z → Committed u made called → 0 < u.left → root_in (held_words o z) ≡ root_in (held_words o u) → Represents u.shape.texts (held_words o z) (known_state o z) → EndsWrite called said number u done
+  ends_at : seen_writes u ≤ number → OnlyPut o made z → Committed u made called → 0 < u.left → root_in (held_words o z) ≡ root_in (held_words o u) → Represents u.shape.texts (held_unboxed o z) (known_state o z) → EndsWrite called said number u done
   ends_at low puts committed some root stands =
       let w1 = puts.work in
       let p1 = w1.pass in
@@ -196,18 +271,23 @@ module _ (called : Call) (said : Reply) (number g : ℕ) (snap : Snap) (u c z w 
         debt = w1.debt;
         used = w1.used;
         owes = w1.owes;
+        tables = w1.tables;
+        made = record { state = puts.made.state; local = puts.made.local; taken = puts.made.taken; places = puts.made.places };
+        moves = puts.moves;
         root = root;
-        others = λ p low ne mine quiet. (
-          puts.others p low ne mine quiet,
-          work_knows made z p w1 ∙ (committed.left p ∙ (untouched_in committed.found called p (λ e. ne (sym e)) ∙ committed.has.agrees p low mine)),
-        );
+        others = λ p low ne mine quiet.
+            let e = puts.others p low ne mine quiet in (
+              e.0,
+              work_knows made z p w1 ∙ (committed.left p ∙ (untouched_in committed.found called p (λ e. ne (sym e)) ∙ committed.has.agrees p low mine)),
+              e.1,
+            );
         found = committed.found;
         has = committed.has;
         content = work_knows made z o w1 ∙ committed.left o;
         stands = stands;
       }
 
-  pub write_ends : seen_writes u ≤ number → c ≡ made → Committed u c called → 0 < u.left → OnlyPut o c z → root_in (held_words o z) ≡ root_in (held_words o u) → Represents u.shape.texts (held_words o z) (known_state o z) → w ≡ done → EndsWrite called said number u w
+  pub write_ends : seen_writes u ≤ number → c ≡ made → Committed u c called → 0 < u.left → OnlyPut o c z → root_in (held_words o z) ≡ root_in (held_words o u) → Represents u.shape.texts (held_unboxed o z) (known_state o z) → w ≡ done → EndsWrite called said number u w
   write_ends low is committed some puts root stands end =
       subst (EndsWrite called said number u) (sym end)
       (ends_at low (subst (λ (y : View). OnlyPut o y z) is puts) (subst (λ (y : View). Committed u y called) is committed) some root stands)
@@ -223,7 +303,7 @@ module _ (called : Call) (said : Reply) (number f : ℕ) (v s u w : View) where
   others_start : (p : ℕ) → p ≢ o' → is_writing p begun.log ≡ is_writing p v.log
   others_start p ne = miss o' p true (is_writing p v.log) (λ e. ne (sym e))
 
-  all_write : (b : Bool) → is_writing o' v.log ≡ false → OnlyPut o' begun u → EndsWrite called said number u w → (p : ℕ) → is_writing p w.log ≡ is_writing p v.log
+  all_write : (b : Bool) → is_writing o' v.log ≡ false → OnlyWritten o' begun u → EndsWrite called said number u w → (p : ℕ) → is_writing p w.log ≡ is_writing p v.log
   all_write b quiet puts ends p =
       dite (ℕ_discrete p o')
       (λ (e : p ≡ o'). subst (λ (q : ℕ). is_writing q w.log ≡ is_writing q v.log) (sym e) (ends.even ∙ sym quiet))
@@ -233,7 +313,7 @@ module _ (called : Call) (said : Reply) (number f : ℕ) (v s u w : View) where
   same_root t r n = hit r n t
 
   -- a write that leaves the root
-  plain_at : is_writing o' v.log ≡ false → OnlyPut o' begun u → EndsWrite called said number u w → root_in (held_words o' u) ≡ root_in (held_words o' v) → Wrote called said number v w
+  plain_at : is_writing o' v.log ≡ false → OnlyWritten o' begun u → EndsWrite called said number u w → root_in (held_words o' u) ≡ root_in (held_words o' v) → Wrote called said number v w
   plain_at quiet puts ends root =
       let w1 = puts.work in
       let p1 = w1.pass in
@@ -268,11 +348,16 @@ module _ (called : Call) (said : Reply) (number f : ℕ) (v s u w : View) where
         debt = ends.debt ∙ (w1.debt ∙ sym (ap (λ (r : ℕ). debt_after o' (root_in (held_words o' v)) r (debt v.log)) whole ∙ hit (root_in (held_words o' v)) (debt v.log) _));
         used = ends.used;
         owes = ends.owes;
+        tables = ends.tables ∙ w1.tables;
+        made = made_then v u w (record { state = puts.made.state; local = puts.made.local; taken = puts.made.taken; places = puts.made.places }) ends.made;
+        loses = λ b. subst (λ (n : ℕ). n ≤ references_held v.shape b v.log + named_in_words b (kind_in v.shape.starts o') (held_words o' v)) (sym (ends.moves b)) (puts.loses b);
         others = λ p low ne mine quiet'.
             let low' = subst (λ (k : Shape). p < container_count k) (sym p1.shape) low in
-            let e = ends.others p low' ne (p1.locks p ∙ mine) ((p1.writes p ∙ others_start p ne) ∙ quiet') in (
-              e.0 ∙ puts.others p low ne mine (others_start p ne ∙ quiet'),
+            let e = ends.others p low' ne (p1.locks p ∙ mine) ((p1.writes p ∙ others_start p ne) ∙ quiet') in
+            let f = puts.others p low ne mine (others_start p ne ∙ quiet') in (
+              e.0 ∙ f.0,
               e.1 ∙ work_knows begun u p w1,
+              e.2 ∙ f.1,
             );
         found = ends.found;
         has = record {
@@ -284,8 +369,8 @@ module _ (called : Call) (said : Reply) (number f : ℕ) (v s u w : View) where
           words = ends.has.words;
         };
         content = ends.content;
-        stands = subst (λ (k : Shape). Represents k.texts (held_words o' w) (known_state o' w)) p1.shape ends.stands;
+        stands = subst (λ (k : Shape). Represents k.texts (held_unboxed o' w) (known_state o' w)) p1.shape ends.stands;
       }
 
-  pub plain_write : s ≡ begun → is_writing o' v.log ≡ false → OnlyPut o' s u → EndsWrite called said number u w → root_in (held_words o' u) ≡ root_in (held_words o' v) → Wrote called said number v w
-  plain_write is quiet puts ends root = plain_at quiet (subst (λ (y : View). OnlyPut o' y u) is puts) ends root
+  pub plain_write : s ≡ begun → is_writing o' v.log ≡ false → OnlyWritten o' s u → EndsWrite called said number u w → root_in (held_words o' u) ≡ root_in (held_words o' v) → Wrote called said number v w
+  plain_write is quiet puts ends root = plain_at quiet (subst (λ (y : View). OnlyWritten o' y u) is puts) ends root

@@ -1,4 +1,5 @@
 pub mod Allowed
+pub mod BoxedSteps
 pub mod KnownAfterSteps
 pub mod Readying
 pub mod ShownReplies
@@ -14,4 +15,10 @@ pub mod Retiring
 pub mod ReuseSteps
 pub mod Floors
 pub mod Undisturbed
+pub mod ValuesPut
+pub mod BoxAddresses
+pub mod BoxReady
+pub mod OwnBoxes
+pub mod DoneBoxes
+pub mod NamedBoxes
 pub mod LastLoads

@@ -21,6 +21,8 @@ use Rattle.ft_bank.specs.Reuse.{HasLoaded, MayAnnounce}
 use Rattle.ft_bank.specs.Rules.{Acted}
 use Rattle.ft_bank.specs.TableNames.{table_id}
 use Rattle.ft_bank.specs.Takings.{KeepsHeld, KeepsBut, Each, NotTable}
+use Rattle.ft_bank.specs.SameBoxes.{SameBoxes}
+use Rattle.ft_bank.proofs.BoxedSteps.{same_boxes}
 use Rattle.ft_bank.proofs.Freeing.{IsAside, keeps_held, keeps_but}
 
 -- the number of a pass is that of one of the shape's passes
@@ -112,6 +114,8 @@ write_number_aside f = record {
   writes = λ cs. refl;
   apart = λ k es o z. z;
   inside = λ t' i e. absurd (cc);
+  boxes = record { lock = λ o b. refl; unput = λ z. z; references = λ k b n before after. refl; state = λ b n. refl; local = λ b n. refl; taken = λ b l n. refl; places = λ b n. refl };
+  box = λ b i e. absurd (cc);
 }
 
 pub write_number_keeps : (v : View) (f : ℕ) → Acted v (WriteNumber f) → KeepsBut Each v (view_after (WriteNumber f) v)
@@ -129,10 +133,15 @@ announce_aside p x = record {
   writes = λ cs. refl;
   apart = λ k es o z. z;
   inside = λ t' i e. absurd (cc);
+  boxes = record { lock = λ o b. refl; unput = λ z. z; references = λ k b n before after. refl; state = λ b n. refl; local = λ b n. refl; taken = λ b l n. refl; places = λ b n. refl };
+  box = λ b i e. absurd (cc);
 }
 
 pub announce_keeps : (v : View) (p x : ℕ) → Acted v (Announce p x) → KeepsHeld Each v (view_after (Announce p x) v)
 announce_keeps v p x d = keeps_held Each v (Announce p x) (announce_aside p x) (λ t n of. refl) d
+
+pub announce_boxes : (v : View) (p x : ℕ) → Acted v (Announce p x) → SameBoxes v (view_after (Announce p x) v)
+announce_boxes v p x d = same_boxes v (Announce p x) (announce_aside p x).boxes d (announce_aside p x).box
 
 announced_aside : (p f : ℕ) → IsAside (ReadAnnounced p f)
 announced_aside p f = record {
@@ -146,6 +155,8 @@ announced_aside p f = record {
   writes = λ cs. refl;
   apart = λ k es o z. z;
   inside = λ t' i e. absurd (cc);
+  boxes = record { lock = λ o b. refl; unput = λ z. z; references = λ k b n before after. refl; state = λ b n. refl; local = λ b n. refl; taken = λ b l n. refl; places = λ b n. refl };
+  box = λ b i e. absurd (cc);
 }
 
 pub announced_keeps : (v : View) (p f : ℕ) → Acted v (ReadAnnounced p f) → KeepsBut Each v (view_after (ReadAnnounced p f) v)
@@ -163,10 +174,15 @@ retire_aside t f = record {
   writes = λ cs. refl;
   apart = λ k es o z. z;
   inside = λ t' i e. absurd (cc);
+  boxes = record { lock = λ o b. refl; unput = λ z. z; references = λ k b n before after. refl; state = λ b n. refl; local = λ b n. refl; taken = λ b l n. refl; places = λ b n. refl };
+  box = λ b i e. absurd (cc);
 }
 
 pub retire_keeps : (v : View) (q : Table) (f : ℕ) → Acted v (Retire (table_id q) f) → KeepsHeld (NotTable q) v (view_after (Retire (table_id q) f) v)
 retire_keeps v q f d = keeps_held (NotTable q) v (Retire (table_id q) f) (retire_aside (table_id q) f) (λ t n of. miss (table_id q) t 4 n (λ e. of (sym e))) d
+
+pub retire_boxes : (v : View) (t f : ℕ) → Acted v (Retire t f) → SameBoxes v (view_after (Retire t f) v)
+retire_boxes v t f d = same_boxes v (Retire t f) (retire_aside t f).boxes d (retire_aside t f).box
 
 put_goal_aside : (t x : ℕ) → IsAside (PutHeader t x)
 put_goal_aside t x = record {
@@ -180,6 +196,8 @@ put_goal_aside t x = record {
   writes = λ cs. refl;
   apart = λ k es o z. z;
   inside = λ t' i e. absurd (cc);
+  boxes = record { lock = λ o b. refl; unput = λ z. z; references = λ k b n before after. refl; state = λ b n. refl; local = λ b n. refl; taken = λ b l n. refl; places = λ b n. refl };
+  box = λ b i e. absurd (cc);
 }
 
 pub put_goal_keeps : (v : View) (t x : ℕ) → Acted v (PutHeader t x) → KeepsBut Each v (view_after (PutHeader t x) v)
@@ -197,6 +215,8 @@ header_aside t f = record {
   writes = λ cs. refl;
   apart = λ k es o z. z;
   inside = λ t' i e. absurd (cc);
+  boxes = record { lock = λ o b. refl; unput = λ z. z; references = λ k b n before after. refl; state = λ b n. refl; local = λ b n. refl; taken = λ b l n. refl; places = λ b n. refl };
+  box = λ b i e. absurd (cc);
 }
 
 pub header_keeps : (v : View) (t f : ℕ) → Acted v (ReadHeader t f) → KeepsBut Each v (view_after (ReadHeader t f) v)

@@ -116,7 +116,7 @@ answered_seen v w z called said part n own last is settled possible =
 
 -- a note has no lock and no table
 pub slip_free : (n : ℕ) (told : List Told) → IsFree (slip n told)
-slip_free n told = ((λ o. refl), (λ t. inl refl), refl, refl, refl, refl)
+slip_free n told = ((λ o. refl), (λ t. inl refl), refl, refl, refl, refl, (λ b. (refl, (λ z. omega (arith, z)), (λ z. omega (arith, z)), refl)))
 
 -- what was taken in counts
 pub taken_in : (v w : View) → w.learnt ≤ (both v w).learnt

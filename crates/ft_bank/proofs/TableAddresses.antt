@@ -5,7 +5,7 @@ use Rattle.ft_layout.specs.Sizes.{table_size}
 use Rattle.ft_layout.specs.Starts.{words_below, table_start}
 use Rattle.ft_model.specs.Classes.{IsClass}
 use Rattle.ft_trace.specs.declared.Shape.{Shape}
-use Rattle.ft_trace.specs.Addresses.{container_count, class_of, number_of, tables_in, far, start_of, extent, at, cell, size, IsTableName}
+use Rattle.ft_trace.specs.Addresses.{container_count, class_of, number_of, tables_in, heap_from, heap_words, far, start_of, extent, at, cell, size, IsTableName}
 use Rattle.ft_trace.proofs.Addresses.{class_of_number, number_of_number, start_high}
 use Rattle.ft_bank.specs.declared.table.Table.{Table}
 use Rattle.ft_bank.specs.TableNames.{table_id, IsTableIn, starts_from, sizes_from}
@@ -63,7 +63,7 @@ sizes_long c (suc n) = ap suc (sizes_long (suc c) n)
 
 -- where the first table of a class begins
 pub start_first : (k : Shape) (c : ℕ) → table_start (container_count k) k.heap k.passes k.tables c 0 ≡ far k + words_below k.tables c
-unfolding far
+unfolding far heap_from heap_words
 start_first k c = omega arith
 
 -- where a table begins

@@ -15,7 +15,8 @@ use Rattle.ft_trace.specs.declared.View.{View}
 use Rattle.ft_trace.specs.Addresses.{Word, at, bits, count_of_class, free_word_of}
 use Rattle.ft_trace.specs.Acts.{floor_words}
 use Rattle.ft_trace.specs.Bits.{bit}
-use Rattle.ft_trace.specs.Counts.{giving, ones, sum_to, taking, word_bits}
+use Rattle.ft_trace.specs.Counts.{giving, ones, taking, word_bits}
+use Rattle.ft_trace.specs.Sums.{sum_to}
 use Rattle.ft_trace.specs.Entries.{total}
 use Rattle.ft_trace.specs.Floors.{FoundAsKnown}
 use Rattle.ft_trace.specs.Traces.{Event, IsReachable, Valid, run, word}

@@ -6,6 +6,8 @@ pub mod NewPasses
 pub mod Series
 pub mod Logs
 pub mod KeyHashes
+pub mod SameBoxes
+pub mod BoxSteps
 pub mod Locks
 pub mod WriteSteps
 pub mod Reads
@@ -16,6 +18,7 @@ pub mod Closings
 pub mod Whole
 pub mod LastLoads
 pub mod Answered
+pub mod TableActs
 pub mod Takings
 pub mod Shown
 pub mod Slips

@@ -28,6 +28,7 @@ use Rattle.ft_trace.specs.Acts.{has_lock, told_in}
 use Rattle.ft_trace.specs.Addresses.{container_count, class_of, slots}
 use Rattle.ft_trace.specs.Causes.{AreOfOneCall, Loaded, FoundEmpty, HasCause, IsToldOf}
 use Rattle.ft_trace.specs.Hands.{cursor_in, MovesCursor}
+use Rattle.ft_trace.specs.HeldReads.{IsEntryReadHeld, IsItemReadHeld}
 use Rattle.ft_trace.specs.Holds.{known_state}
 use Rattle.ft_trace.specs.LoggedLookUps.{Hit, Bare, ItemHit, ItemPast}
 use Rattle.ft_trace.specs.Kinds.{rows}
@@ -57,13 +58,15 @@ pub record KeyIsShown (v : View) (o : ℕ) (key : Key) (found : Option Value) (n
       → IsShown v (call.Dict o (dict.GetOr key default)) (reply.Value (unwrap_or found default)) n
   pub has : IsShown v (call.Dict o (dict.Has key)) (reply.Truth (is_some found)) n
 
--- a key that was found in a dict, with the value whose words were read
+-- a key that was found in a dict, with the value whose words were read, in place or in a box
 abbrev pub DictHitsAreShown : Type 0
 DictHitsAreShown =
     (v : View) (o t place : ℕ) (key : Key) (n : ℕ) → MayAsk v o n → kind_in v.shape.starts o ≡ kind.Dict → FitsKey key
     → place < rows kind.Dict (class_of t) → (h : Hit v.log o t place key n)
     → IsShown v (call.Dict o (dict.Has key)) (reply.Truth true) n
-    × ((kind payload : ℕ) → IsValueRead t place kind payload h.mid → (value : Value)
+    × ((kind payload : ℕ)
+    → IsValueRead t place kind payload h.mid ⊎ IsEntryReadHeld v.shape v.log o t place key n h kind payload
+    → (value : Value)
     → IsStored kind payload (Plain value) → KeyIsShown v o key (Some value) n)
 
 -- the words that were read of its value are those of one
@@ -71,7 +74,8 @@ abbrev pub ValuesAreRead : Type 0
 ValuesAreRead =
     (v : View) (o t place : ℕ) (key : Key) (n : ℕ) → IsReachable v → o < container_count v.shape
     → kind_in v.shape.starts o ≡ kind.Dict → FitsKey key → place < rows kind.Dict (class_of t)
-    → (h : Hit v.log o t place key n) (kind payload : ℕ) → IsValueRead t place kind payload h.mid
+    → (h : Hit v.log o t place key n) (kind payload : ℕ)
+    → IsValueRead t place kind payload h.mid ⊎ IsEntryReadHeld v.shape v.log o t place key n h kind payload
     → (value : Value) × IsStored kind payload (Plain value)
 
 -- a key that was found in a set
@@ -96,7 +100,7 @@ abbrev pub ItemsAreShown : Type 0
 ItemsAreShown =
     (v : View) (o t place n : ℕ) → MayAsk v o n → kind_in v.shape.starts o ≡ kind.List
     → place < rows kind.List (class_of t) → (h : ItemHit v.log o t place n) (kind payload : ℕ)
-    → IsItemRead t place kind payload h.mid
+    → IsItemRead t place kind payload h.mid ⊎ IsItemReadHeld v.shape v.log o t place n h kind payload
     → ((value : Value) → IsStored kind payload (Plain value)
     → IsShown v (call.List o (list.Get (pos place))) (item_reply (Some value)) n)
     × (IsStored kind payload Empty → IsShown v (call.List o (list.Get (pos place))) (item_reply None) n)
@@ -106,7 +110,7 @@ abbrev pub ItemsAreRead : Type 0
 ItemsAreRead =
     (v : View) (o t place n : ℕ) → IsReachable v → o < container_count v.shape → kind_in v.shape.starts o ≡ kind.List
     → place < rows kind.List (class_of t) → (h : ItemHit v.log o t place n) (kind payload : ℕ)
-    → IsItemRead t place kind payload h.mid
+    → IsItemRead t place kind payload h.mid ⊎ IsItemReadHeld v.shape v.log o t place n h kind payload
     → ((value : Value) × IsStored kind payload (Plain value)) ⊎ IsStored kind payload Empty
 
 -- an index past the table of the list, or where the root was read 0

@@ -6,7 +6,7 @@ use Rattle.ft_model.specs.Classes.{IsClass}
 use Rattle.ft_trace.specs.declared.Shape.{Shape}
 use Rattle.ft_trace.specs.declared.View.{View}
 use Rattle.ft_trace.specs.Addresses.{at, cell, class_of, extent, size, tables_in, far}
-use Rattle.ft_trace.specs.Holds.{in_hand}
+use Rattle.ft_trace.specs.Holds.{in_hand, hand_unboxed}
 use Rattle.ft_bank.specs.declared.table.Table.{Table}
 
 -- the root word of the table less 1
@@ -30,6 +30,11 @@ root_for (Some t) = suc (table_id t)
 abbrev pub words_for : Option Table → View → List ℕ
 words_for None v = []
 words_for (Some t) v = in_hand (table_id t) v
+
+-- and what they read through boxes, for the container o
+abbrev pub unboxed_for : ℕ → Option Table → View → List ℕ
+unboxed_for o None v = []
+unboxed_for o (Some t) v = hand_unboxed o (table_id t) v
 
 -- where the tables of each class begin, from class c on
 abbrev pub starts_from : Shape → ℕ → ℕ → List ℕ

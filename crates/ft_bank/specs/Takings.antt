@@ -8,13 +8,15 @@ use Rattle.ft_trace.specs.declared.View.{View}
 use Rattle.ft_trace.specs.Addresses.{container_count, class_of, IsTableName, free_word_of, free_bit_of}
 use Rattle.ft_trace.specs.Acts.{has_lock, is_writing, has_committed, has_emptied, stage, clear, announces, used, debt, flight, owes}
 use Rattle.ft_trace.specs.Bits.{bit}
-use Rattle.ft_trace.specs.Holds.{held_words, known_state, in_hand}
+use Rattle.ft_trace.specs.Holds.{in_hand}
 use Rattle.ft_trace.specs.Traces.{IsAllShut}
 use Rattle.ft_bank.specs.declared.table.Table.{Table}
 use Rattle.ft_bank.specs.declared.takings.Took.{Took}
 use Rattle.ft_bank.specs.declared.takings.Took.TheVariants as took
 use Rattle.ft_bank.specs.declared.takings.Search.{Search}
 use Rattle.ft_bank.specs.declared.takings.Search.TheVariants as search
+use Rattle.ft_bank.specs.Locks.{KnowsSame}
+use Rattle.ft_bank.specs.SameBoxes.{SameBoxes}
 use Rattle.ft_bank.specs.TableNames.{table_id, IsTableIn}
 
 -- ---- what stays
@@ -37,15 +39,16 @@ pub record KeepsHeld (F : ℕ → Type 0) (v w : View) : Type 0 where
   pub emptied : (o : ℕ) → has_emptied o w.log ≡ has_emptied o v.log
   pub used : used w.log ≡ used v.log
   pub words : (o : ℕ) → o < container_count v.shape → has_lock o v.log ≡ true
-      → (held_words o w ≡ held_words o v) × (known_state o w ≡ known_state o v)
+      → KnowsSame o v w
   pub stages : (t : ℕ) → F t → stage t w.log ≡ stage t v.log
   pub hands : (t : ℕ) → F t → IsTableName v.shape t → stage t v.log ≡ 1 → in_hand t w ≡ in_hand t v
 
--- besides, it announces the same number, and has as many tables to retire
+-- besides, it announces the same number, has as many tables to retire, and all that it has to do with boxes is as it was
 pub record KeepsBut (F : ℕ → Type 0) (v w : View) : Type 0 where
   pub held : KeepsHeld F v w
   pub announces : announces w.log ≡ announces v.log
   pub debt : debt w.log ≡ debt v.log
+  pub boxes : SameBoxes v w
 
 -- every table
 abbrev pub Each : ℕ → Type 0

@@ -14,8 +14,11 @@ use Rattle.ft_trace.specs.Hands.{cursor_in}
 use Rattle.ft_trace.specs.BegunSections.{begun}
 use Rattle.ft_trace.specs.ContainerStates.{state_at, changes}
 use Rattle.ft_trace.specs.Pictures.{root_in, Represents}
-use Rattle.ft_trace.specs.Holds.{held_words, known_state}
+use Rattle.ft_trace.specs.Holds.{held_words, held_unboxed, known_state}
+use Rattle.ft_bank.specs.Locks.{KnowsSame}
 use Rattle.ft_bank.specs.Logs.{HasGrown, StaysOnline}
+use Rattle.ft_bank.specs.SameBoxes.{LosesReferences, MovesReferences, SameBoxes, SameMade}
+use Rattle.ft_bank.specs.TableActs.{table_acts}
 use Rattle.ft_bank.specs.WriteSteps.{MayHave}
 
 -- It is the same pass: it has the same locks, has made the same versions odd, announces the same, is in the midst of
@@ -43,8 +46,8 @@ pub record SamePass (v w : View) : Type 0 where
   pub grown : HasGrown v w
   pub stays_online : StaysOnline v w
 
--- The same pass has made no entry and no call, and has the same tables in hand; each write that it has begun is as far as
--- it was; and it was online as before. (profile)
+-- The same pass has made no entry and no call, has done nothing to tables, and has the same ones in hand; each write that
+-- it has begun is as far as it was; and it was online as before. (profile)
 pub record SameWork (v w : View) : Type 0 where
   pub pass : SamePass v w
   pub left : w.left ≡ v.left
@@ -57,18 +60,41 @@ pub record SameWork (v w : View) : Type 0 where
   pub owes : owes w.log ≡ owes v.log
   pub past : past w.log ≡ past v.log
   pub presence : presence_of w.log ≡ presence_of v.log
+  pub tables : table_acts w.log ≡ table_acts v.log
+
+-- The pass has loaded words of the bank and taken steps with boxes, and done nothing else: it knows the same words, and
+-- they read the same through boxes in each container whose lock it has. (profile)
+pub record OnlyBoxed (v w : View) : Type 0 where
+  pub work : SameWork v w
+  pub words : mem v.shape w.log ≡ mem v.shape v.log
+  pub unboxed : (p : ℕ) → p < container_count v.shape → has_lock p v.log ≡ true → held_unboxed p w ≡ held_unboxed p v
 
 -- The pass has loaded words of the bank, and done nothing else. (profile)
 pub record OnlyLoaded (v w : View) : Type 0 where
   pub work : SameWork v w
   pub words : mem v.shape w.log ≡ mem v.shape v.log
+  pub unboxed : (p : ℕ) → p < container_count v.shape → has_lock p v.log ≡ true → held_unboxed p w ≡ held_unboxed p v
+  pub boxes : SameBoxes v w
 
 -- The pass has loaded words of the bank and put words of the container o, and done nothing else: of each other
--- container whose lock it has and that it doesn't write it knows the same words. (profile)
+-- container whose lock it has and that it doesn't write it knows the same words, which read the same. It holds the
+-- references that the words of o have no longer. (profile)
 pub record OnlyPut (o : ℕ) (v w : View) : Type 0 where
   pub work : SameWork v w
+  pub made : SameMade v w
+  pub moves : MovesReferences o v w
   pub others : (p : ℕ) → p < container_count v.shape → p ≢ o → has_lock p v.log ≡ true → is_writing p v.log ≡ false
-      → held_words p w ≡ held_words p v
+      → (held_words p w ≡ held_words p v) × (held_unboxed p w ≡ held_unboxed p v)
+
+-- The pass has loaded words, put words of the container o and taken steps with boxes, and done nothing else: of each
+-- other container whose lock it has and that it doesn't write it knows the same words, which read the same. The boxes
+-- that it made are as they were, and it may have dropped references that the words of o have no longer. (profile)
+pub record OnlyWritten (o : ℕ) (v w : View) : Type 0 where
+  pub work : SameWork v w
+  pub made : SameMade v w
+  pub loses : LosesReferences o v w
+  pub others : (p : ℕ) → p < container_count v.shape → p ≢ o → has_lock p v.log ≡ true → is_writing p v.log ≡ false
+      → (held_words p w ≡ held_words p v) × (held_unboxed p w ≡ held_unboxed p v)
 
 -- the entry of a write
 abbrev pub write_entry : Call → Reply → ℕ → Entry
@@ -85,7 +111,7 @@ debt_after o old root n = cond (old == root) n (debt_next (PutRoot o root old) n
 
 -- The pass, which has made the version of a container odd and put its words, has made the call as its write there, and
 -- the version even again: the second half of a whole write. The write's number is at least all writes that the pass had
--- seen, and the pass has then seen the write. (profile)
+-- seen, and the pass has then seen the write. It took, gave back and retired no table. (profile)
 pub record EndsWrite (called : Call) (said : Reply) (number : ℕ) (v w : View) : Type 0 where
   pub same_number : w.number ≡ v.number
   pub next : w.next ≡ v.next
@@ -114,20 +140,23 @@ pub record EndsWrite (called : Call) (said : Reply) (number : ℕ) (v w : View) 
   pub debt : debt w.log ≡ debt v.log
   pub used : used w.log ≡ false
   pub owes : owes w.log ≡ 0
+  pub tables : table_acts w.log ≡ table_acts v.log
+  pub made : SameMade v w
+  pub moves : MovesReferences (changes called) v w
   pub root : root_in (held_words (changes called) w) ≡ root_in (held_words (changes called) v)
   pub others : (p : ℕ) → p < container_count v.shape → p ≢ changes called → has_lock p v.log ≡ true
       → is_writing p v.log ≡ false
-      → (held_words p w ≡ held_words p v) × (known_state p w ≡ known_state p v)
+      → KnowsSame p v w
   pub found : StoredWorld
   pub has : MayHave v found
   pub content : known_state (changes called) w ≡ state_at (after_stored found called) (changes called)
-  pub stands : Represents v.shape.texts (held_words (changes called) w) (known_state (changes called) w)
+  pub stands : Represents v.shape.texts (held_unboxed (changes called) w) (known_state (changes called) w)
 
 -- The pass made this call as one whole write, with this reply, and the write has this number: at least all writes that
--- the pass had seen, and it has then seen the write. It has one entry more, and a call less left. It knows the same of
--- each other container whose lock it has and that it doesn't write. Of the container that the call changes it knows
--- what the call makes of what the bank had, and the words that it knows stand for that, with the class and the fill of
--- its table. (profile)
+-- the pass had seen, and it has then seen the write. It has one entry more, and a call less left; it took, gave back and
+-- retired no table. It knows the same of each other container whose lock it has and that it doesn't write. Of the
+-- container that the call changes it knows what the call makes of what the bank had, and the words that it knows stand
+-- for that, with the class and the fill of its table. (profile)
 pub record Wrote (called : Call) (said : Reply) (number : ℕ) (v w : View) : Type 0 where
   pub pass : SamePass v w
   pub seen : seen_writes v ≤ number
@@ -143,10 +172,13 @@ pub record Wrote (called : Call) (said : Reply) (number : ℕ) (v w : View) : Ty
       (root_in (held_words (changes called) w)) (debt v.log)
   pub used : used w.log ≡ false
   pub owes : owes w.log ≡ 0
+  pub tables : table_acts w.log ≡ table_acts v.log
+  pub made : SameMade v w
+  pub loses : LosesReferences (changes called) v w
   pub others : (p : ℕ) → p < container_count v.shape → p ≢ changes called → has_lock p v.log ≡ true
       → is_writing p v.log ≡ false
-      → (held_words p w ≡ held_words p v) × (known_state p w ≡ known_state p v)
+      → KnowsSame p v w
   pub found : StoredWorld
   pub has : MayHave v found
   pub content : known_state (changes called) w ≡ state_at (after_stored found called) (changes called)
-  pub stands : Represents v.shape.texts (held_words (changes called) w) (known_state (changes called) w)
+  pub stands : Represents v.shape.texts (held_unboxed (changes called) w) (known_state (changes called) w)

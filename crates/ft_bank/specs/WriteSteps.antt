@@ -1,5 +1,5 @@
 -- What the steps of a write ask of the pass that makes them, in what it knows.
-use Rattle.std.specs.Prelude.{All, map, ◌≡◌, ◌≢◌, ℕ, suc, ◌<◌, ◌≤◌, true, false, length, [], Option, Some, None, slice_index, slice_set}
+use Rattle.std.specs.Prelude.{All, map, ◌≡◌, ◌≢◌, ◌⊎◌, ℕ, suc, ◌+◌, ◌<◌, ◌≤◌, true, false, length, [], Option, Some, None, slice_index, slice_set}
 use Rattle.ft_model.specs.declared.call.Call.{Call}
 use Rattle.ft_model.specs.declared.reply.Reply.{Reply}
 use Rattle.ft_model.specs.Answers.{is_write}
@@ -16,9 +16,15 @@ use Rattle.ft_trace.specs.Kinds.{rows, version_at, SoundAs, CarefulAs, ClearAs}
 use Rattle.ft_trace.specs.OddVersions.{Shut, Timely}
 use Rattle.ft_trace.specs.FitCalls.{FitsCall, FitsContent}
 use Rattle.ft_trace.specs.BegunSections.{HasLocksOf}
-use Rattle.ft_trace.specs.Holds.{held_words, known_state, in_hand, AgreesWith}
+use Rattle.ft_layout.specs.Starts.{kind_word, payload_word}
+use Rattle.ft_trace.specs.Boxes.{named_in_root, references_held, knows_box_word, HasReferences}
+use Rattle.ft_trace.specs.WholeWrites.{IsNoValue}
+use Rattle.ft_trace.specs.declared.Act.TheVariants.{PutTable}
+use Rattle.ft_trace.specs.Holds.{held_words, held_unboxed, known_state, hand_unboxed, AgreesWith}
 use Rattle.ft_bank.specs.declared.table.Table.{Table}
-use Rattle.ft_bank.specs.TableNames.{table_id, root_for, words_for}
+use Rattle.ft_bank.specs.Locks.{KnowsSame}
+use Rattle.ft_bank.specs.SameBoxes.{named_in_words, HoldsFew}
+use Rattle.ft_bank.specs.TableNames.{table_id, root_for, words_for, unboxed_for}
 
 -- a stored world that the bank may have where a pass knows this: it has every container, those whose locks the pass has
 -- as the pass knows them, each is of its kind, its tables are in order and no dict is split, and words can represent
@@ -48,7 +54,7 @@ pub record MayCommit (v : View) (call : Call) (reply : Reply) : Type 0 where
   pub declared : (stored : StoredWorld) → MayHave v stored → IsDeclared stored.world no_hands call
   pub fits : (stored : StoredWorld) → MayHave v stored → would_pass stored.world call ≡ false
   pub clear : (stored : StoredWorld) (t : ℕ) → MayHave v stored → root_in (held_words (changes call) v) ≡ suc t
-      → ClearAs (kind_in v.shape.starts (changes call)) v.shape.texts (class_of t) (held_words (changes call) v).table
+      → ClearAs (kind_in v.shape.starts (changes call)) v.shape.texts (class_of t) (held_unboxed (changes call) v).table
       (known_state (changes call) v).content (state_at (after_stored stored call) (changes call)).content
   pub takes : (stored : StoredWorld) (class : ℕ) → MayHave v stored → owes v.log ≡ suc class
       → takes_in stored call ≡ Some class
@@ -67,24 +73,36 @@ abbrev pub IsShut : ℕ → View → Type 0
 IsShut o v =
     (t : ℕ) → root_in (held_words o v) ≡ suc t
     → Shut (version_at (kind_in v.shape.starts o) (class_of t)) (rows (kind_in v.shape.starts o) (class_of t))
-    (held_words o v).table
+    (held_unboxed o v).table
+
+-- The pass has the references for the boxes that the table of this root names: those that it holds, and those of the
+-- container's words as they are. It knows the value of each that the container doesn't name yet, and holds few.
+pub record HasRootReferences (v : View) (o : ℕ) (root : Option Table) : Type 0 where
+  pub few : HoldsFew v
+  pub enough : (b : ℕ) → named_in_root b (kind_in v.shape.starts o) (root_for root) (words_for root v)
+      ≤ references_held v.shape b v.log + named_in_words b (kind_in v.shape.starts o) (held_words o v)
+  pub known : (b : ℕ) → named_in_words b (kind_in v.shape.starts o) (held_words o v) ≡ 0
+      → named_in_root b (kind_in v.shape.starts o) (root_for root) (words_for root v) ≢ 0
+      → (knows_box_word v.shape b kind_word v.log ≡ true) × (knows_box_word v.shape b payload_word v.log ≡ true)
 
 -- The root of o may become this. A table that it names is fresh in hand, as it must be for readers of the content, and
 -- its versions are 0, or before the commit at most 1. No version is odd in the table that the root names now, and the
--- pass has taken no other out of a root since its last commit. 0 is put before the commit alone.
+-- pass has taken no other out of a root since its last commit. 0 is put before the commit alone. The pass has the
+-- references for the boxes that the table names.
 pub record MayPutRoot (v : View) (o : ℕ) (root : Option Table) : Type 0 where
   pub odd : is_writing o v.log ≡ true
   pub fresh : (t : Table) → root ≡ Some t → stage (table_id t) v.log ≡ 1
   pub sound : (t : Table) → root ≡ Some t
-      → SoundAs (kind_in v.shape.starts o) v.shape.texts (class_of (table_id t)) (in_hand (table_id t) v)
+      → SoundAs (kind_in v.shape.starts o) v.shape.texts (class_of (table_id t)) (hand_unboxed o (table_id t) v)
       (known_state o v).content
   pub young : (t : Table) (p : ℕ) → root ≡ Some t → p < rows (kind_in v.shape.starts o) (class_of (table_id t))
-      → (slice_index (in_hand (table_id t) v) (version_at (kind_in v.shape.starts o) (class_of (table_id t)) p) ≤ 1)
+      → (slice_index (hand_unboxed o (table_id t) v) (version_at (kind_in v.shape.starts o) (class_of (table_id t)) p) ≤ 1)
       × (has_committed o v.log ≡ true
-      → slice_index (in_hand (table_id t) v) (version_at (kind_in v.shape.starts o) (class_of (table_id t)) p) ≡ 0)
+      → slice_index (hand_unboxed o (table_id t) v) (version_at (kind_in v.shape.starts o) (class_of (table_id t)) p) ≡ 0)
   pub shut : IsShut o v
   pub spare : root_in (held_words o v) ≢ 0 → used v.log ≡ false
   pub early : root ≡ None → has_committed o v.log ≡ false
+  pub references : HasRootReferences v o root
 
 -- the words of a container with one of its block changed that is not the root
 abbrev pub with_block : ContainerWords → ℕ → ℕ → ContainerWords
@@ -98,16 +116,28 @@ with_table x i value = record { block = x.block; table = slice_set x.table i val
 abbrev pub with_root : ContainerWords → Option Table → View → ContainerWords
 with_root x root v = record { block = slice_set x.block 0 (root_for root); table = words_for root v }
 
+-- and what they read through boxes, for the container o
+abbrev pub with_unboxed_root : ContainerWords → ℕ → Option Table → View → ContainerWords
+with_unboxed_root x o root v = record { block = slice_set x.block 0 (root_for root); table = unboxed_for o root v }
+
+-- A word may be put with the references that it needs. One that is no value's needs none, where the pass holds few.
+abbrev pub HasReferencesFor : View → ℕ → ℕ → ℕ → ℕ → Type 0
+HasReferencesFor v o t i value =
+    (IsNoValue (kind_in v.shape.starts o) (class_of t) i × HoldsFew v)
+    ⊎ HasReferences v.shape v.log (PutTable o t i value) o
+
 -- The word of the table that the root of o names may become this while others read it without the lock. A version of an
--- entry or item becomes odd before the commit of the write, and even after it.
+-- entry or item becomes odd before the commit of the write, and even after it. The pass has the references that the word
+-- needs.
 pub record IsCareful (v : View) (o t i value : ℕ) : Type 0 where
-  pub care : CarefulAs (kind_in v.shape.starts o) (class_of t) (held_words o v).table (known_state o v).content i value
+  pub care : CarefulAs (kind_in v.shape.starts o) (class_of t) (held_unboxed o v).table (known_state o v).content i value
   pub timely : Timely (version_at (kind_in v.shape.starts o) (class_of t))
       (rows (kind_in v.shape.starts o) (class_of t)) i
       value (has_committed o v.log)
+  pub references : HasReferencesFor v o t i value
 
 -- the pass knows the same as before of each container whose lock it has and that it doesn't write
 abbrev pub KeepsUnwritten : View → View → Type 0
 KeepsUnwritten v w =
     (p : ℕ) → p < container_count v.shape → has_lock p v.log ≡ true → is_writing p v.log ≡ false
-    → (held_words p w ≡ held_words p v) × (known_state p w ≡ known_state p v)
+    → KnowsSame p v w

@@ -4,10 +4,12 @@
 //! Between any two steps of any passes it keeps true, for all layers above, that there is a valid trace
 //! of `ft_trace` which gives the bank's words and what each pass knows. Each public step makes one
 //! atomic step, and its contract names the action that the pass did, which is one more event of that
-//! trace; the condition of a step is that of its action, in words of what the pass knows.
+//! trace; the condition of a step is that of its action, in words of what the pass knows. `put_value`
+//! makes two, and takings and givings of tables some more.
 #![tactic(auto)]
 
 mod bank;
+mod boxes;
 mod closed;
 mod floor;
 mod keys;

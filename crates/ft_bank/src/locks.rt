@@ -6,7 +6,7 @@ ghost use Rattle.ft_trace.specs.declared.Snap.{Snap};
 ghost use Rattle.ft_trace.specs.Addresses.{container_count};
 ghost use Rattle.ft_trace.specs.Acts.{has_lock, is_writing};
 ghost use Rattle.ft_trace.specs.Pictures.{Represents};
-ghost use Rattle.ft_trace.specs.Holds.{held_words, known_state};
+ghost use Rattle.ft_trace.specs.Holds.{held_unboxed, known_state};
 ghost use Rattle.ft_bank.specs.Locks.{lock_found, KeepsOthers};
 
 use crate::bank::Bank;
@@ -28,7 +28,7 @@ impl Bank {
         ensures did { (s : Snap) × Did (Lock o (lock_found result) s) pass.old pass.new }
         ensures other { IfErr result (λ q. (q + 1 ≢ (view pass.old).number) × (q < (shape_of self.now).passes)) }
         ensures lock { OnOk result (has_lock o (view pass.new).log ≡ true) }
-        ensures stands { OnOk result (Represents (shape_of self.now).texts (held_words o (view pass.new)) (known_state o (view pass.new))) }
+        ensures stands { OnOk result (Represents (shape_of self.now).texts (held_unboxed o (view pass.new)) (known_state o (view pass.new))) }
         ensures keeps { KeepsOthers o (view pass.old) (view pass.new) }
     {
         let word = self.block_of(o);

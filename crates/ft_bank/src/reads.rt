@@ -60,7 +60,8 @@ impl Bank {
     }
 
     /// Loads a word of a table, counted from its header on. It is the word that the pass knows, where
-    /// the table is fresh in its hand, or that of a container whose lock it has.
+    /// the table is fresh in its hand, or that of a container whose lock it has, or one that the pass
+    /// took out of a root and has not retired.
     pub fn read_table(&self, pass: &mut Pass, t: Table, word: u64) -> u64
         requires pass { IsPassOf self.now pass.old }
         requires table { IsTableIn (shape_of self.now) t }
@@ -70,6 +71,8 @@ impl Bank {
             root_in (held_words o (view pass.old)) ≡ suc (table_id t) →
             result ≡ slice_index (held_words o (view pass.old)).table word }
         ensures fresh { stage (table_id t) (view pass.old).log ≡ 1 →
+            result ≡ slice_index (in_hand (table_id t) (view pass.old)) word }
+        ensures taken { stage (table_id t) (view pass.old).log ≡ 3 →
             result ≡ slice_index (in_hand (table_id t) (view pass.old)) word }
     {
         let start = self.cell_of(t);
@@ -87,6 +90,8 @@ impl Bank {
             root_in (held_words o (view pass.old)) ≡ suc (table_id t) →
             result ≡ slice_index (held_words o (view pass.old)).table word }
         ensures fresh { stage (table_id t) (view pass.old).log ≡ 1 →
+            result ≡ slice_index (in_hand (table_id t) (view pass.old)) word }
+        ensures taken { stage (table_id t) (view pass.old).log ≡ 3 →
             result ≡ slice_index (in_hand (table_id t) (view pass.old)) word }
     {
         self.load_as::<Brand>(pass, start + word, 0, t.name(), word)

@@ -7,6 +7,7 @@ ghost use Rattle.ft_trace.specs.Addresses.{free_word_of, free_bit_of};
 ghost use Rattle.ft_trace.specs.Bits.{bit};
 ghost use Rattle.ft_bank.specs.Reuse.{MayAnnounce};
 ghost use Rattle.ft_bank.specs.Retired.{table_of_bit};
+ghost use Rattle.ft_bank.specs.SameBoxes.{SameBoxes};
 ghost use Rattle.ft_bank.specs.Takings.{Each, KeepsBut, KeepsHeld, NotTable};
 ghost use Rattle.ft_bank.specs.TableNames.{table_id, IsTableIn};
 
@@ -61,6 +62,7 @@ impl Bank {
         ensures did { Did (Announce (view pass.old).number number) pass.old pass.new }
         ensures keeps { KeepsHeld Each (view pass.old) (view pass.new) }
         ensures debt { debt (view pass.new).log ≡ debt (view pass.old).log }
+        ensures boxes { SameBoxes (view pass.old) (view pass.new) }
     {
         let word = announced_word(pass.number);
         let own = u64::from(pass.number) + 1;
@@ -88,6 +90,7 @@ impl Bank {
         ensures did { (n : ℕ) × (result ≡ n + 1) × Did (Retire (table_id table) n) pass.old pass.new }
         ensures keeps { KeepsHeld (NotTable table) (view pass.old) (view pass.new) }
         ensures announces { announces (view pass.new).log ≡ announces (view pass.old).log }
+        ensures boxes { SameBoxes (view pass.old) (view pass.new) }
     {
         let name = table.name() as u32;
         self.add_as::<Brand>(pass, WRITE_NUMBER, name) + 1

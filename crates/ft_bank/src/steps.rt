@@ -1,6 +1,6 @@
 //! One atomic step on one word, as the action of a pass that its caller picks. Each public step is one
 //! of these. The numbers that a call gives beside the word are for the action.
-ghost use Rattle.std.specs.Prelude.{◌≡◌, ◌≢◌, ℕ, ◌+◌, ◌%◌, ◌^◌, ◌<◌, ◌==◌, suc, [], bit_and, bit_or};
+ghost use Rattle.std.specs.Prelude.{◌≡◌, ◌≢◌, ℕ, ◌+◌, ◌-◌, ◌%◌, ◌^◌, ◌<◌, ◌==◌, suc, [], bit_and, bit_or};
 ghost use prog.Atomic.{either};
 ghost use Rattle.ft_trace.specs.declared.Snap.{Snap};
 ghost use Rattle.ft_trace.specs.Addresses.{extent, at};
@@ -88,6 +88,57 @@ impl Bank {
         self.table
             .shared
             .fetch_add::<Does<A>>(&mut pass.seat, word as usize, 1)
+    }
+
+    /// Raises a word by this much.
+    pub(crate) fn raise_as<A: Saying>(&self, pass: &mut Pass, word: u64, more: u64, b: u32) -> u64
+        requires pass { IsPassOf self.now pass.old }
+        requires word { word < extent (shape_of self.now) }
+        requires act { Acts (view pass.old) word (λ n. (n + more) % 2 ^ 64) A.act }
+        requires ready { Ready (view pass.old) word A.act }
+        requires left { LeavesWrites (view pass.old) (λ n _. A.act n) }
+        requires retired { LeavesRetired (λ n _. A.act n) }
+        ensures did { Did (A.act result) pass.old pass.new }
+        ensures acted { Acted (view pass.old) (A.act result) }
+    {
+        let _ = b;
+        self.table
+            .shared
+            .fetch_add::<Does<A>>(&mut pass.seat, word as usize, more)
+    }
+
+    /// Lowers a word by this much.
+    pub(crate) fn lower_as<A: Saying>(&self, pass: &mut Pass, word: u64, less: u64, b: u32) -> u64
+        requires pass { IsPassOf self.now pass.old }
+        requires word { word < extent (shape_of self.now) }
+        requires act { Acts (view pass.old) word (λ n. (n + (2 ^ 64 - less)) % 2 ^ 64) A.act }
+        requires ready { Ready (view pass.old) word A.act }
+        requires left { LeavesWrites (view pass.old) (λ n _. A.act n) }
+        requires retired { LeavesRetired (λ n _. A.act n) }
+        ensures did { Did (A.act result) pass.old pass.new }
+        ensures acted { Acted (view pass.old) (A.act result) }
+    {
+        let _ = b;
+        self.table
+            .shared
+            .fetch_sub::<Does<A>>(&mut pass.seat, word as usize, less)
+    }
+
+    /// Sets in a word the bits that a mask has.
+    pub(crate) fn set_as<A: Saying>(&self, pass: &mut Pass, word: u64, mask: u64, b: u32) -> u64
+        requires pass { IsPassOf self.now pass.old }
+        requires word { word < extent (shape_of self.now) }
+        requires act { Acts (view pass.old) word (λ n. bit_or n mask) A.act }
+        requires ready { Ready (view pass.old) word A.act }
+        requires left { LeavesWrites (view pass.old) (λ n _. A.act n) }
+        requires retired { LeavesRetired (λ n _. A.act n) }
+        ensures did { Did (A.act result) pass.old pass.new }
+        ensures acted { Acted (view pass.old) (A.act result) }
+    {
+        let _ = b;
+        self.table
+            .shared
+            .fetch_or::<Does<A>>(&mut pass.seat, word as usize, mask)
     }
 
     /// Puts a number into a word that has another; where it has not, the word stays.

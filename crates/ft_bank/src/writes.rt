@@ -1,13 +1,21 @@
 //! The steps of a write: by a pass with the lock, from an odd version over its puts and the counter, which
 //! is the write, to an even version.
-ghost use Rattle.std.specs.Prelude.{◌≡◌, ◌≢◌, ◌⊎◌, ℕ, suc, ◌<◌, ◌≤◌, ◌+◌, true, false, Some, slice_set};
+ghost use Rattle.std.specs.Prelude.{◌≡◌, ◌≢◌, ◌⊎◌, ℕ, suc, ◌<◌, ◌≤◌, ◌+◌, true, false, Some, slice_index, slice_set};
 ghost use Rattle.ft_trace.specs.declared.Act.TheVariants.{StartWrite, PutBlock, PutRoot, PutTable, PutFresh, Commit, StopWrite};
 ghost use Rattle.ft_trace.specs.declared.Snap.{Snap};
 ghost use Rattle.ft_trace.specs.Addresses.{container_count, class_of, size};
 ghost use Rattle.ft_trace.specs.Acts.{has_lock, is_writing, has_committed, seen_writes, stage};
 ghost use Rattle.ft_trace.specs.Pictures.{root_in, Represents};
-ghost use Rattle.ft_trace.specs.Holds.{held_words, known_state, in_hand};
-ghost use Rattle.ft_bank.specs.WriteSteps.{Committed, MayCommit, MayPutRoot, IsCareful, IsShut, KeepsUnwritten, with_block, with_root, with_table};
+ghost use Rattle.ft_trace.specs.Boxes.{names_box, references_held};
+ghost use Rattle.ft_trace.specs.BoxWords.{box_kind};
+ghost use Rattle.ft_trace.specs.ContainerStates.{kind_in};
+ghost use Rattle.ft_trace.specs.Holds.{held_words, held_unboxed, known_state, in_hand, hand_unboxed};
+ghost use Rattle.ft_trace.specs.WholeWrites.{IsNoValue};
+ghost use Rattle.ft_bank.specs.BoxSteps.{kind_read, payload_read, value_acts, HasReferenceFor, IsOpenValue};
+ghost use Rattle.ft_bank.specs.SameBoxes.{HoldsFew, MovesReferences, SameBoxes, SameReferences};
+ghost use Rattle.ft_bank.specs.Series.{DidAll};
+ghost use Rattle.ft_bank.specs.Whole.{OnlyPut};
+ghost use Rattle.ft_bank.specs.WriteSteps.{Committed, MayCommit, MayPutRoot, IsCareful, IsShut, KeepsUnwritten, with_block, with_root, with_unboxed_root, with_table};
 ghost use Rattle.ft_bank.specs.declared.table.Table.{Table};
 ghost use Rattle.ft_bank.specs.TableNames.{table_id, root_for, IsPlaceOf, IsTableIn};
 
@@ -16,6 +24,9 @@ use crate::pass::Pass;
 use crate::table::{Table, root_value};
 use ft_model::{Call, Reply};
 use std::marker::Brand;
+
+/// The kind of a value that stands in a box.
+const BOX_KIND: u64 = 4;
 
 impl Bank {
     ghost use Rattle.ft_bank.specs.Passes.{shape_of, view, IsPassOf, Did};
@@ -41,6 +52,9 @@ impl Bank {
         requires word { (word ≢ 0) × (word < 6) }
         ensures did { Did (PutBlock o word value) pass.old pass.new }
         ensures held { held_words o (view pass.new) ≡ with_block (held_words o (view pass.old)) word value }
+        ensures unboxed { held_unboxed o (view pass.new) ≡ with_block (held_unboxed o (view pass.old)) word value }
+        ensures boxes { SameBoxes (view pass.old) (view pass.new) }
+        ensures moves { MovesReferences o (view pass.old) (view pass.new) }
         ensures keeps { KeepsUnwritten (view pass.old) (view pass.new) }
     {
         let start = self.block_of(o) + 2;
@@ -56,6 +70,8 @@ impl Bank {
         requires may { MayPutRoot (view pass.old) o root }
         ensures did { Did (PutRoot o (root_for root) (root_in (held_words o (view pass.old)))) pass.old pass.new }
         ensures held { held_words o (view pass.new) ≡ with_root (held_words o (view pass.old)) root (view pass.old) }
+        ensures unboxed { held_unboxed o (view pass.new) ≡ with_unboxed_root (held_unboxed o (view pass.old)) o root (view pass.old) }
+        ensures moves { MovesReferences o (view pass.old) (view pass.new) }
         ensures keeps { KeepsUnwritten (view pass.old) (view pass.new) }
     {
         let word = self.block_of(o) + 2;
@@ -75,6 +91,11 @@ impl Bank {
         requires care { IsCareful (view pass.old) o (table_id t) word value }
         ensures did { Did (PutTable o (table_id t) word value) pass.old pass.new }
         ensures held { held_words o (view pass.new) ≡ with_table (held_words o (view pass.old)) word value }
+        ensures unboxed { IsNoValue (kind_in (shape_of self.now).starts o) (class_of (table_id t)) word →
+            held_unboxed o (view pass.new) ≡ with_table (held_unboxed o (view pass.old)) word value }
+        ensures moves { MovesReferences o (view pass.old) (view pass.new) }
+        ensures same { IsNoValue (kind_in (shape_of self.now).starts o) (class_of (table_id t)) word →
+            SameReferences (view pass.old) (view pass.new) }
         ensures keeps { KeepsUnwritten (view pass.old) (view pass.new) }
     {
         let start = self.cell_of(t);
@@ -94,9 +115,93 @@ impl Bank {
         requires care { IsCareful (view pass.old) o (table_id t) word value }
         ensures did { Did (PutTable o (table_id t) word value) pass.old pass.new }
         ensures held { held_words o (view pass.new) ≡ with_table (held_words o (view pass.old)) word value }
+        ensures unboxed { IsNoValue (kind_in (shape_of self.now).starts o) (class_of (table_id t)) word →
+            held_unboxed o (view pass.new) ≡ with_table (held_unboxed o (view pass.old)) word value }
+        ensures moves { MovesReferences o (view pass.old) (view pass.new) }
+        ensures same { IsNoValue (kind_in (shape_of self.now).starts o) (class_of (table_id t)) word →
+            SameReferences (view pass.old) (view pass.new) }
         ensures keeps { KeepsUnwritten (view pass.old) (view pass.new) }
     {
         self.store_as::<Brand>(pass, start + word, value, o, t.name(), word);
+    }
+
+    /// Puts the value of an entry or item whose version is odd, whose kind lies at this word of the table and whose
+    /// payload at the next: the value itself, or what names the box in which it stands, for which the pass holds a
+    /// reference and whose value it knows. That reference is the words' then, and that of a box which they named before
+    /// is the pass's. The two words are put in an order in which they name no box by accident, each in a step of its
+    /// own. `start` is where the table's words lie.
+    pub fn put_value(
+        &self,
+        pass: &mut Pass,
+        o: u32,
+        t: Table,
+        start: u64,
+        word: u64,
+        kind: u64,
+        payload: u64,
+    )
+        requires pass { IsPassOf self.now pass.old }
+        requires container { o < container_count (shape_of self.now) }
+        requires table { IsTableIn (shape_of self.now) t }
+        requires place { IsPlaceOf (shape_of self.now) t start }
+        requires odd { is_writing o (view pass.old).log ≡ true }
+        requires root { root_in (held_words o (view pass.old)) ≡ suc (table_id t) }
+        requires value { IsOpenValue (view pass.old) o (table_id t) word }
+        requires reference { HasReferenceFor (view pass.old) kind payload }
+        requires few { HoldsFew (view pass.old) }
+        ensures did { DidAll (value_acts o (table_id t) word kind payload) pass.old pass.new }
+        ensures held { held_words o (view pass.new) ≡
+            with_table (with_table (held_words o (view pass.old)) word kind) (word + 1) payload }
+        ensures unboxed { held_unboxed o (view pass.new) ≡
+            with_table (with_table (held_unboxed o (view pass.old)) word (kind_read (view pass.old) kind payload))
+            (word + 1) (payload_read (view pass.old) kind payload) }
+        ensures references { (b : ℕ) →
+            references_held (shape_of self.now) b (view pass.new).log + names_box b kind payload ≡
+            references_held (shape_of self.now) b (view pass.old).log
+            + names_box b (slice_index (held_words o (view pass.old)).table word)
+            (slice_index (held_words o (view pass.old)).table (word + 1)) }
+        ensures only { OnlyPut o (view pass.old) (view pass.new) }
+        ensures keeps { KeepsUnwritten (view pass.old) (view pass.new) }
+    {
+        let next = word + 1;
+        if kind == BOX_KIND {
+            self.put_word(pass, o, t, start, next, payload);
+            self.put_word(pass, o, t, start, word, kind);
+        } else {
+            self.put_word(pass, o, t, start, word, kind);
+            self.put_word(pass, o, t, start, next, payload);
+        }
+    }
+
+    /// Puts the payload alone of the value of an entry or item whose version is odd, where its kind, which lies at this
+    /// word of the table, names no box. `start` is where the table's words lie.
+    pub fn put_payload(
+        &self,
+        pass: &mut Pass,
+        o: u32,
+        t: Table,
+        start: u64,
+        word: u64,
+        payload: u64,
+    )
+        requires pass { IsPassOf self.now pass.old }
+        requires container { o < container_count (shape_of self.now) }
+        requires table { IsTableIn (shape_of self.now) t }
+        requires place { IsPlaceOf (shape_of self.now) t start }
+        requires odd { is_writing o (view pass.old).log ≡ true }
+        requires root { root_in (held_words o (view pass.old)) ≡ suc (table_id t) }
+        requires value { IsOpenValue (view pass.old) o (table_id t) word }
+        requires plain { slice_index (held_words o (view pass.old)).table word ≢ box_kind }
+        requires few { HoldsFew (view pass.old) }
+        ensures did { Did (PutTable o (table_id t) (word + 1) payload) pass.old pass.new }
+        ensures held { held_words o (view pass.new) ≡ with_table (held_words o (view pass.old)) (word + 1) payload }
+        ensures unboxed { held_unboxed o (view pass.new) ≡ with_table (held_unboxed o (view pass.old)) (word + 1) payload }
+        ensures same { SameReferences (view pass.old) (view pass.new) }
+        ensures only { OnlyPut o (view pass.old) (view pass.new) }
+        ensures keeps { KeepsUnwritten (view pass.old) (view pass.new) }
+    {
+        let next = word + 1;
+        self.put_word(pass, o, t, start, next, payload);
     }
 
     /// Puts a word of a table that is fresh in hand, counted from its header on.
@@ -108,6 +213,11 @@ impl Bank {
         ensures did { Did (PutFresh (table_id t) word value) pass.old pass.new }
         ensures fresh { in_hand (table_id t) (view pass.new) ≡
             slice_set (in_hand (table_id t) (view pass.old)) word value }
+        ensures unboxed { (o : ℕ) → IsNoValue (kind_in (shape_of self.now).starts o) (class_of (table_id t)) word →
+            hand_unboxed o (table_id t) (view pass.new) ≡
+            slice_set (hand_unboxed o (table_id t) (view pass.old)) word value }
+        ensures moves { (o : ℕ) → o < container_count (shape_of self.now) → has_lock o (view pass.old).log ≡ true →
+            MovesReferences o (view pass.old) (view pass.new) }
         ensures keeps { KeepsUnwritten (view pass.old) (view pass.new) }
     {
         let start = self.cell_of(t);
@@ -125,6 +235,11 @@ impl Bank {
         ensures did { Did (PutFresh (table_id t) word value) pass.old pass.new }
         ensures fresh { in_hand (table_id t) (view pass.new) ≡
             slice_set (in_hand (table_id t) (view pass.old)) word value }
+        ensures unboxed { (o : ℕ) → IsNoValue (kind_in (shape_of self.now).starts o) (class_of (table_id t)) word →
+            hand_unboxed o (table_id t) (view pass.new) ≡
+            slice_set (hand_unboxed o (table_id t) (view pass.old)) word value }
+        ensures moves { (o : ℕ) → o < container_count (shape_of self.now) → has_lock o (view pass.old).log ≡ true →
+            MovesReferences o (view pass.old) (view pass.new) }
         ensures keeps { KeepsUnwritten (view pass.old) (view pass.new) }
     {
         self.store_as::<Brand>(pass, start + word, value, 0, t.name(), word);
@@ -148,7 +263,7 @@ impl Bank {
         requires container { o < container_count (shape_of self.now) }
         requires odd { is_writing o (view pass.old).log ≡ true }
         requires committed { has_committed o (view pass.old).log ≡ true }
-        requires stands { Represents (shape_of self.now).texts (held_words o (view pass.old)) (known_state o (view pass.old)) }
+        requires stands { Represents (shape_of self.now).texts (held_unboxed o (view pass.old)) (known_state o (view pass.old)) }
         requires shut { IsShut o (view pass.old) }
         ensures { Did (StopWrite o result) pass.old pass.new }
     {

@@ -89,6 +89,57 @@ pub fn take_all(words: &Seen, seat: &mut Seat<(), ()>, rounds: u32)
     }
 }
 
+/// What it takes to make a box and drop it: four loads, a bit cleared and set, five stores, and an addition.
+pub fn make_all(words: &Seen, seat: &mut Seat<(), ()>, rounds: u32)
+    requires seat { seat.old.table_id ≡ words.now.table_id }
+    requires words { words.now.table_id.words ≡ 16 }
+    ensures seat { seat.new.table_id ≡ words.now.table_id }
+{
+    for _ in 0..rounds {
+        words.load::<Anything>(seat, 6);
+        words.fetch_and::<Anything>(seat, 6, 0);
+        words.store::<Anything>(seat, 9, 2);
+        words.store::<Anything>(seat, 10, 2_000);
+        words.store::<Anything>(seat, 11, 1);
+        words.store::<Anything>(seat, 8, 0);
+        words.load::<Anything>(seat, 8);
+        words.load::<Anything>(seat, 11);
+        words.store::<Anything>(seat, 11, 0);
+        words.load::<Anything>(seat, 11);
+        words.fetch_add::<Anything>(seat, 8, 3);
+        words.fetch_or::<Anything>(seat, 6, 1);
+    }
+}
+
+/// What it takes that the maker of a box raises it and drops it: four loads and two stores.
+pub fn raise_own_all(words: &Seen, seat: &mut Seat<(), ()>, rounds: u32)
+    requires seat { seat.old.table_id ≡ words.now.table_id }
+    requires words { words.now.table_id.words ≡ 16 }
+    ensures seat { seat.new.table_id ≡ words.now.table_id }
+{
+    for _ in 0..rounds {
+        words.load::<Anything>(seat, 8);
+        words.load::<Anything>(seat, 11);
+        words.store::<Anything>(seat, 11, 2);
+        words.load::<Anything>(seat, 8);
+        words.load::<Anything>(seat, 11);
+        words.store::<Anything>(seat, 11, 1);
+    }
+}
+
+/// What it takes that another pass does so: a load, an exchange and an addition.
+pub fn raise_shared_all(words: &Seen, seat: &mut Seat<(), ()>, rounds: u32)
+    requires seat { seat.old.table_id ≡ words.now.table_id }
+    requires words { words.now.table_id.words ≡ 16 }
+    ensures seat { seat.new.table_id ≡ words.now.table_id }
+{
+    for _ in 0..rounds {
+        words.load::<Anything>(seat, 8);
+        words.compare_exchange::<Anything>(seat, 8, 0, 4);
+        words.fetch_add::<Anything>(seat, 8, u64::MAX - 3);
+    }
+}
+
 /// A table of 256 zeros, and a seat on it.
 pub fn spread(alloc: Global) -> Result<(Words, Seat<(), ()>), AllocError>
     ensures seat { IfOk result (λ made. made.1.table_id ≡ made.0.shared.table_id) }

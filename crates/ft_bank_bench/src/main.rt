@@ -1,13 +1,16 @@
-//! Times steps of a bank and calls on lists, each beside the bare steps of `atomic_table` that it stands on, in one
-//! run. The one argument is a number of rounds; without it the program makes a few rounds and writes no time.
+//! Times steps of a bank, calls on lists and calls on boxes, each beside the bare steps of `atomic_table` that it stands
+//! on, in one run. The one argument is a number of rounds; without it the program makes a few rounds and writes no time.
 #![tactic(auto)]
 
 mod bank_steps;
 mod bare_steps;
+mod box_steps;
+mod box_times;
 mod list_steps;
 mod list_times;
 mod times;
 
+use crate::box_times::measure_boxes;
 use crate::list_times::measure_lists;
 use crate::times::{Time, measure};
 use std::rt::Env;
@@ -30,7 +33,23 @@ fn main(rt: HostRuntime) -> io::Result<()> {
     };
     show(&rt, "lock, set an item and unlock", times.sets, rounds)?;
     show(&rt, "take a table and retire it", times.retirements, rounds)?;
-    show(&rt, "set items in two threads", times.in_two, rounds)
+    show(&rt, "set items in two threads", times.in_two, rounds)?;
+    let Some(times) = measure_boxes(&rt, rt.alloc(), rounds.unwrap_or(QUICK))? else {
+        return println!(rt; "out of memory");
+    };
+    show(&rt, "make a box and drop it", times.makings, rounds)?;
+    show(
+        &rt,
+        "raise a box of one's own and drop it",
+        times.raises,
+        rounds,
+    )?;
+    show(
+        &rt,
+        "raise another's box and drop it",
+        times.shared_raises,
+        rounds,
+    )
 }
 
 /// The number of rounds that the command line names, if it names one.

@@ -17,9 +17,10 @@ use Rattle.ft_trace.specs.Acts.{floor_words}
 use Rattle.ft_trace.specs.Addresses.{at, container_count, version_of}
 use Rattle.ft_trace.specs.ContainerStates.{container_after}
 use Rattle.ft_trace.specs.InOrder.{AreInOrder}
-use Rattle.ft_trace.specs.Pictures.{picture, Represents}
+use Rattle.ft_trace.specs.Pictures.{Represents}
 use Rattle.ft_trace.specs.Traces.{Event, IsReachable, history, run, word}
-use Rattle.ft_trace.proofs.Contents.{stands}
+use Rattle.ft_trace.specs.Unboxed.{unboxed_picture}
+use Rattle.ft_trace.proofs.Standing.{stands}
 use Rattle.ft_trace.proofs.Floored.{floored}
 use Rattle.ft_trace.proofs.Known.{kind_then, kinds_stay}
 use Rattle.ft_trace.proofs.Quiet.{versions_even}
@@ -67,7 +68,7 @@ module _ (v : View) (x : IsReachable v) (is : IsLast v) where
       (λ o s low found.
       let inside : o < container_count k = omega (arith, low, long) in
       shown.each o s found (container_after k.starts (history es) o) (kind_then k es x.2.0 o)
-      (subst (λ (ws : List ℕ). Represents k.texts (picture k o ws) (container_after k.starts (history es) o)) (sym words_now) (stands k es x.2.0 o inside (even_now o inside))))
+      (subst (λ (ws : List ℕ). Represents k.texts (unboxed_picture k o ws) (container_after k.starts (history es) o)) (sym words_now) (stands k es x.2.0 o inside (even_now o inside))))
 
   -- in the order of the writes
   pub last_world : (all : List Shown) → AreShownTo v all → all ≡ map shown_of (world_by k.starts (reverse (history es)))

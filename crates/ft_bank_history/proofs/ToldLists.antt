@@ -1,5 +1,5 @@
 -- What is told of all entries of a pass stays so where more is told.
-use Rattle.std.proofs.Common.{◌≡◌, ℕ, suc, List, ◌++◌}
+use Rattle.std.proofs.Common.{◌≡◌, ℕ, List, ◌++◌}
 use Rattle.std.specs.Prelude.{Some, slice_get}
 use Rattle.ft_trace.specs.declared.Entry.{Entry}
 use Rattle.ft_trace.specs.declared.Told.{Told}

@@ -1,5 +1,5 @@
 -- The cursors of a thread go over the containers of its last `iter`s.
-use Rattle.std.proofs.Common.{◌≡◌, ◌≢◌, ◌<◌, ⊎_elim, ℕ, zero, suc, Bool, true, false, true≢false, List, [], ◌∷◌, length, refl, sym, ap, ◌∙◌, subst, length-set, get_or-set_same, get_or-set_other}
+use Rattle.std.proofs.Common.{◌≡◌, ◌<◌, ⊎_elim, ℕ, zero, suc, Bool, true, false, List, [], ◌∷◌, length, refl, sym, ap, ◌∙◌, subst, length-set, get_or-set_same, get_or-set_other}
 use Rattle.std.specs.Prelude.{◌==◌, ◌&&◌, Option, Some, None, All, fold, option_map, slice_set, if◌then◌else◌}
 use Rattle.std.proofs.lemmas.List.Elements.{All-head, All-tail}
 use mathlib.Core.Logic.{dite}

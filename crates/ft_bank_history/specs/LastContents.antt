@@ -8,7 +8,8 @@ use Rattle.ft_trace.specs.declared.View.{View}
 use Rattle.ft_trace.specs.Acts.{floor_words, is_writing}
 use Rattle.ft_trace.specs.Addresses.{container_count}
 use Rattle.ft_trace.specs.ContainerStates.{ContainerState, kind_in}
-use Rattle.ft_trace.specs.Pictures.{picture, ContainerWords, Represents}
+use Rattle.ft_trace.specs.Pictures.{ContainerWords, Represents}
+use Rattle.ft_trace.specs.Unboxed.{unboxed_picture}
 
 -- where these words stand for what the container o has, all its pairs, items or elements are shown, in order
 abbrev pub IsShownAs : Shape → ℕ → Shown → ContainerWords → Type 0
@@ -16,10 +17,10 @@ IsShownAs k o shown x =
     (kept : ContainerState) → kind_of kept.content ≡ kind_in k.starts o → Represents k.texts x kept
     → shown ≡ shown_of kept.content
 
--- each container is shown so by these words of the bank, in the order of declaration
+-- each container is shown so by what these words of the bank read through boxes, in the order of declaration
 pub record AreShownBy (k : Shape) (words : List ℕ) (all : List Shown) : Type 0 where
   pub count : length all ≡ container_count k
-  pub each : (o : ℕ) (shown : Shown) → slice_get all o ≡ Some shown → IsShownAs k o shown (picture k o words)
+  pub each : (o : ℕ) (shown : Shown) → slice_get all o ≡ Some shown → IsShownAs k o shown (unboxed_picture k o words)
 
 -- and by the words that a pass knows which has the floor
 abbrev pub AreShownTo : View → List Shown → Type 0

@@ -1,2 +1,3 @@
 pub mod Reversing
 pub mod Opening
+pub mod OneBox

@@ -26,15 +26,17 @@ use Rattle.ft_trace.specs.LoggedReads.{IsNothing}
 use Rattle.ft_trace.specs.Traces.{IsReachable}
 use Rattle.ft_trace.specs.ContainerStates.{ContainerState, state_at, kind_in}
 use Rattle.ft_trace.specs.Pictures.{ContainerWords, root_in, Represents}
-use Rattle.ft_trace.specs.Holds.{held_words, known_state}
+use Rattle.ft_trace.specs.Holds.{held_words, held_unboxed, known_state}
 use Rattle.ft_trace.proofs.Cases.{hit}
 use Rattle.ft_trace.proofs.Known.{declared_at, kind_known}
 use Rattle.ft_trace.proofs.Naming.{one_locked}
 use Rattle.ft_trace.proofs.NoTable.{no_table_stands}
 use Rattle.ft_bank.specs.WriteSteps.{Committed, IsShut, MayCommit, MayHave}
 use Rattle.ft_bank.specs.Whole.{EndsWrite, OnlyLoaded, Wrote}
-use Rattle.ft_bank.proofs.KnownAfterWrites.{loaded_held, plain_write, put_same, work_knows, write_ends}
-use Rattle.ft_bank_tests.specs.SmallestWrites.{MayReverse}
+use Rattle.ft_bank.proofs.KnownAfterWrites.{plain_write, put_same, put_written, work_knows, write_ends}
+use Rattle.ft_trace.specs.Boxes.{IsDoneWithBoxes}
+use Rattle.ft_bank.proofs.DoneBoxes.{done_none, done_same, fewer_named, none_named}
+use Rattle.ft_bank_tests.specs.SmallestWrites.{MayReverse, Reversed}
 
 -- the call
 abbrev pub reversal : ℕ → Call
@@ -69,7 +71,7 @@ module _ (k : Shape) (l : ℕ) (v : View) (possible : ∥ IsReachable v ∥₁) 
   empty : (known_state l v).content ≡ content.List []
   unfolding list_code
   empty =
-      let nothing = no_table_stands k.texts (held_words l v) (known_state l v) bare may.stands in
+      let nothing = no_table_stands k.texts (held_unboxed l v) (known_state l v) bare may.stands in
       let code : list_code (kind_of (known_state l v).content) ≡ 1 = ∥∥₁_elim {P = list_code (kind_of (known_state l v).content) ≡ 1} possible (ℕ_set _ _) (λ p. ap list_code (kind_known v l may.locked p ∙ is_kind)) in
       as_empty (known_state l v).content code nothing.1
 
@@ -129,18 +131,21 @@ module _ (k : Shape) (l : ℕ) (v : View) (possible : ∥ IsReachable v ∥₁) 
       held_after : held_words l c ≡ held_words l v
       held_after = ap (λ (z : View). held_words l z) is
 
-      stands_begun : Represents k.texts (held_words l c) (known_state l c)
-      stands_begun = subst (λ (z : ContainerWords × ContainerState). Represents k.texts z.0 z.1) (λ d. (sym held_after d, sym known_after d)) may.stands
+      unboxed_after : held_unboxed l c ≡ held_unboxed l v
+      unboxed_after = ap (λ (z : View). held_unboxed l z) is
+
+      stands_begun : Represents k.texts (held_unboxed l c) (known_state l c)
+      stands_begun = subst (λ (z : ContainerWords × ContainerState). Represents k.texts z.0 z.1) (λ d. (sym unboxed_after d, sym known_after d)) may.stands
 
       shut_begun : IsShut l c
       shut_begun t names = let root = ap root_in held_after ∙ bare in absurd (omega (arith, names, root))
 
       wrote_begun : seen_writes begun ≤ number → (g : ℕ) (w : View) → w ≡ view_after (StopWrite l g) c → Wrote (reversal l) reply.Done number v w × (root_in (held_words l w) ≡ 0)
       wrote_begun seen g w stopped = (
-        plain_write (reversal l) reply.Done number f v begun begun w refl (may.even l) (put_same begun l)
+        plain_write (reversal l) reply.Done number f v begun begun w refl (may.even l) (put_written l begun begun (put_same begun l))
             (write_ends (reversal l) reply.Done number g snap begun c c w seen is committed may.left (put_same c l)
             (ap root_in held_after)
-            (subst (λ (z : Shape). Represents z.texts (held_words l c) (known_state l c)) (sym shape) stands_begun)
+            (subst (λ (z : Shape). Represents z.texts (held_unboxed l c) (known_state l c)) (sym shape) stands_begun)
             stopped) refl,
         ap (λ (z : View). root_in (held_words l z)) stopped ∙ (ap root_in held_after ∙ bare),
       )
@@ -152,7 +157,7 @@ module _ (k : Shape) (l : ℕ) (v : View) (possible : ∥ IsReachable v ∥₁) 
       is_at : c ≡ view_after (Commit (reversal l) reply.Done number snap) begun
       is_at = is ∙ ap (λ (z : View). view_after (Commit (reversal l) reply.Done number snap) z) is_begun
 
-      pub stands_after : Represents k.texts (held_words l c) (known_state l c)
+      pub stands_after : Represents k.texts (held_unboxed l c) (known_state l c)
       stands_after = stands_begun number snap c committed_begun is_at
 
       pub shut_after : IsShut l c
@@ -162,9 +167,9 @@ module _ (k : Shape) (l : ℕ) (v : View) (possible : ∥ IsReachable v ∥₁) 
       wrote seen g w stopped = wrote_begun number snap c committed_begun is_at (subst (λ (z : View). seen_writes z ≤ number) is_begun seen) g w stopped
 
 -- a load of the root leaves all that
-pub may_loaded : (k : Shape) (l : ℕ) (v w : View) → OnlyLoaded v w → MayReverse k l v → MayReverse k l w
-may_loaded k l v w only may =
-    let h = loaded_held v w l only in
+pub may_loaded : (k : Shape) (l : ℕ) (v w : View) → v.shape ≡ k → OnlyLoaded v w → MayReverse k l v → MayReverse k l w
+may_loaded k l v w shape only may =
+    let h = only.unboxed l (subst (λ (z : Shape). l < container_count z) (sym shape) may.container) may.locked in
     let n = work_knows v w l only.work in
     record {
       container = may.container;
@@ -175,3 +180,11 @@ may_loaded k l v w only may =
       owes = only.work.owes ∙ may.owes;
       left = subst (λ (z : ℕ). 0 < z) (sym only.work.left) may.left;
     }
+
+-- a whole write of a list that has nothing moves no reference
+pub reversed_done : (l number : ℕ) (v w : View) → Reversed l number v w → IsDoneWithBoxes v.shape v.log → IsDoneWithBoxes w.shape w.log
+reversed_done l number v w r done =
+    let loaded = done_same v r.loaded r.only.boxes done in
+    done_none r.loaded w
+    (fewer_named l r.loaded w r.wrote.loses (λ b. none_named b (kind_in w.shape.starts l) (held_words l w) r.still_bare ∙ sym (none_named b (kind_in r.loaded.shape.starts l) (held_words l r.loaded) r.bare)) (λ b. (loaded b).0))
+    r.wrote.made loaded

@@ -1,3 +1,4 @@
 pub mod TestRounds
 pub mod SmallestWrites
 pub mod Working
+pub mod OneBox

@@ -10,7 +10,7 @@ use Rattle.ft_trace.specs.Addresses.{container_count}
 use Rattle.ft_trace.specs.Acts.{has_lock, is_writing, owes}
 use Rattle.ft_trace.specs.ContainerStates.{kind_in}
 use Rattle.ft_trace.specs.Pictures.{root_in, Represents}
-use Rattle.ft_trace.specs.Holds.{held_words, known_state}
+use Rattle.ft_trace.specs.Holds.{held_words, held_unboxed, known_state}
 use Rattle.ft_bank.specs.Whole.{OnlyLoaded, Wrote}
 
 -- The pass may reverse the list l: it has its lock, and the list's words stand for what the pass knows of it; it writes
@@ -20,7 +20,7 @@ pub record MayReverse (k : Shape) (l : ℕ) (v : View) : Type 0 where
   pub kind : kind_in k.starts l ≡ kind.List
   pub locked : has_lock l v.log ≡ true
   pub even : (p : ℕ) → is_writing p v.log ≡ false
-  pub stands : Represents k.texts (held_words l v) (known_state l v)
+  pub stands : Represents k.texts (held_unboxed l v) (known_state l v)
   pub owes : owes v.log ≡ 0
   pub left : 0 < v.left
 

@@ -23,6 +23,7 @@ pub fn small_shape(
 ) -> Result<Shape, AllocError>
     ensures sizes { IfOk result (λ s. (s.passes ≡ passes) × (s.calls ≡ calls)) }
     ensures kinds { IfOk result (λ s. s.kinds.items ≡ kinds.items) }
+    ensures heap { IfOk result (λ s. s.heap ≡ 64) }
 {
     Ok(Shape {
         kinds,

@@ -3,6 +3,8 @@
 #![tactic(auto)]
 
 mod banks;
+#[cfg(test)]
+mod boxes;
 mod rounds;
 #[cfg(test)]
 mod shapes;

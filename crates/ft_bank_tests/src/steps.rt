@@ -13,6 +13,7 @@ use std::test::Fail;
 pub(crate) fn small(alloc: Global) -> Result<Shape, Fail>
     ensures sizes { IfOk result (λ s. (length s.kinds.items ≡ 2) × (s.passes ≡ 2) × (s.calls ≡ 10)) }
     ensures kinds { IfOk result (λ s. s.kinds.items ≡ kind.List ∷ kind.Dict ∷ []) }
+    ensures heap { IfOk result (λ s. s.heap ≡ 64) }
 {
     Ok(small_shape(alloc, vec![in alloc; Kind::List, Kind::Dict]?, 2, 10)?)
 }

@@ -19,7 +19,7 @@ use Rattle.ft_layout.specs.Containers.{StandsAs}
 use Rattle.ft_trace.specs.declared.Shape.{Shape}
 use Rattle.ft_trace.specs.declared.View.{View}
 use Rattle.ft_trace.specs.Addresses.{container_count}
-use Rattle.ft_trace.specs.Holds.{held_words, known_state}
+use Rattle.ft_trace.specs.Holds.{held_unboxed, known_state}
 use Rattle.ft_trace.specs.Traces.{IsReachable}
 use Rattle.ft_trace.specs.ContainerStates.{state_at, kind_in}
 use Rattle.ft_trace.proofs.Known.{declared_at}
@@ -53,8 +53,8 @@ module _ (k : Shape) (d e : ℕ) (v : View) (shape : v.shape ≡ k) (possible : 
 
   few : length pairs.pairs ≤ most_pairs
   few =
-      pairs_few k.texts (held_words d v).block (0 ∷ 0 ∷ (held_words d v).table) (known_state d v).table pairs
-      (subst (λ (z : Content). StandsAs k.texts (held_words d v).block (0 ∷ 0 ∷ (held_words d v).table) (known_state d v).table z) one.1 may.stands)
+      pairs_few k.texts (held_unboxed d v).block (0 ∷ 0 ∷ (held_unboxed d v).table) (known_state d v).table pairs
+      (subst (λ (z : Content). StandsAs k.texts (held_unboxed d v).block (0 ∷ 0 ∷ (held_unboxed d v).table) (known_state d v).table z) one.1 may.stands)
 
   long : length_of left ≡ length pairs.pairs
   long = length-pairs_from given.next pairs.pairs

@@ -25,7 +25,7 @@ use Rattle.ft_model.specs.Worlds.{dict_of, kind_of, no_hands}
 use Rattle.ft_trace.specs.declared.Shape.{Shape}
 use Rattle.ft_trace.specs.declared.View.{View}
 use Rattle.ft_trace.specs.Addresses.{class_of, container_count, places}
-use Rattle.ft_trace.specs.Holds.{held_words, known_state}
+use Rattle.ft_trace.specs.Holds.{held_unboxed, known_state}
 use Rattle.ft_trace.specs.Kinds.{rows}
 use Rattle.ft_trace.specs.Traces.{IsReachable}
 use Rattle.ft_trace.proofs.DictWrites.{LiveEntriesArePairs}
@@ -151,8 +151,8 @@ module _ (k : Shape) (d : ℕ) (v : View) (shape : v.shape ≡ k) (possible : �
   is_dict' : (known_state d v).content ≡ content.Dict pairs'
   is_dict' = as_dict (known_state d v).content known_kind
 
-  module _ (last : Last) (found : IsLastOf k (Some last) (held_words d v)) where
-    here : IsLastPair k (Some last) (held_words d v) pairs'
+  module _ (last : Last) (found : IsLastOf k (Some last) (held_unboxed d v)) where
+    here : IsLastPair k (Some last) (held_unboxed d v) pairs'
     here = found (known_state d v) known_kind may.stands
 
     pub popped_table : HasTable k d last.table v
@@ -174,7 +174,7 @@ module _ (k : Shape) (d : ℕ) (v : View) (shape : v.shape ≡ k) (possible : �
         ap (λ (z : Option DictPair). option_map_or (λ (pair : DictPair). puts stored.world no_hands d (content.Dict (without_last pairs')) (reply.Pair pair.key pair.value)) z (shows stored.world no_hands (reply.Raised raise.NoKey))) here.2.1
         ∙ ap (λ (z : DictContent). puts stored.world no_hands d (content.Dict z) (reply.Pair last.key last.value)) (sym here.3)))
 
-  module _ (found : IsLastOf k None (held_words d v)) where
+  module _ (found : IsLastOf k None (held_unboxed d v)) where
     empty : length pairs'.pairs ≡ 0
     empty = found (known_state d v) known_kind may.stands
 

@@ -20,10 +20,10 @@ ghost use Rattle.ft_search.specs.OneEntryWrites.{MayWriteEntries};
 
 use ft_bank::{Bank, Pass};
 use ft_keys::Way;
+use ft_layout::value_of;
 use ft_model::{Call, DictCall, Key, Raise, Reply, Value};
 use ft_search::{Spot, answer_made, delete_entry, seek_key, write_nothing, written};
 use ft_section::{Object, Stamp};
-use ft_whole_tables::value_of;
 
 /// The value that these words are of, which a pass with the dict's lock found at a key.
 pub(crate) fn value_at(

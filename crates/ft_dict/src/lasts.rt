@@ -57,6 +57,7 @@ fn last_with(table: Table, place: u64, found: Option<(Key, Value)>) -> Option<La
 /// The last pair among as many entries of a table.
 fn last_in(bank: &Bank, pass: &mut Pass, d: Object, table: Table, fill: u64) -> Option<Last>
     requires pass { IsPassOf bank.now pass.old }
+    requires dict { kind_in (shape_of bank.now).starts d ≡ kind.Dict }
     requires table { IsTableIn (shape_of bank.now) table }
     ensures pass { IsPassOf bank.now pass.new }
     ensures stack { stack_of pass.new ≡ stack_of pass.old }
@@ -76,6 +77,7 @@ fn last_in(bank: &Bank, pass: &mut Pass, d: Object, table: Table, fill: u64) -> 
 fn last_pair(bank: &Bank, pass: &mut Pass, d: Object) -> Option<Last>
     requires pass { IsPassOf bank.now pass.old }
     requires container { d < container_count (shape_of bank.now) }
+    requires dict { kind_in (shape_of bank.now).starts d ≡ kind.Dict }
     ensures pass { IsPassOf bank.now pass.new }
     ensures stack { stack_of pass.new ≡ stack_of pass.old }
     ensures reads { Reads (shape_of bank.now) d (IsLastOf (shape_of bank.now) result) pass.old pass.new }

@@ -7,7 +7,7 @@ ghost use Rattle.ft_model.specs.declared.script.Kind.TheVariants as kind;
 ghost use Rattle.ft_trace.specs.declared.Act.{Act};
 ghost use Rattle.ft_trace.specs.Acts.{has_lock};
 ghost use Rattle.ft_trace.specs.Addresses.{container_count};
-ghost use Rattle.ft_trace.specs.Holds.{held_words, known_state};
+ghost use Rattle.ft_trace.specs.Holds.{held_unboxed, known_state};
 ghost use Rattle.ft_trace.specs.Pictures.{Represents};
 ghost use Rattle.ft_trace.specs.ContainerStates.{kind_in};
 ghost use Rattle.ft_bank.specs.Answered.{Answered};
@@ -20,10 +20,10 @@ ghost use Rattle.ft_dict.specs.Locked.{HasValue};
 use crate::looks::reply_of;
 use ft_bank::{Bank, Pass};
 use ft_keys::Way;
+use ft_layout::value_of;
 use ft_model::{Call, DictCall, Key, Reply, Value};
 use ft_search::{answer_held, read_key};
 use ft_section::{Object, Stamp};
-use ft_whole_tables::value_of;
 
 /// The value at a key of a dict whose lock the pass has.
 fn value_locked(bank: &Bank, pass: &mut Pass, d: Object, key: Key) -> Option<Value>
@@ -32,7 +32,7 @@ fn value_locked(bank: &Bank, pass: &mut Pass, d: Object, key: Key) -> Option<Val
     requires dict { kind_in (shape_of bank.now).starts d ≡ kind.Dict }
     requires key { IsKeyIn (shape_of bank.now) key }
     requires locked { has_lock d (view pass.old).log ≡ true }
-    requires stands { Represents (shape_of bank.now).texts (held_words d (view pass.old)) (known_state d (view pass.old)) }
+    requires stands { Represents (shape_of bank.now).texts (held_unboxed d (view pass.old)) (known_state d (view pass.old)) }
     ensures pass { IsPassOf bank.now pass.new }
     ensures sections { stack_of pass.new ≡ stack_of pass.old }
     ensures key { FitsKey key }
@@ -60,7 +60,7 @@ pub(crate) fn get_locked(bank: &Bank, pass: &mut Pass, d: Object, key: Key) -> (
     requires dict { kind_in (shape_of bank.now).starts d ≡ kind.Dict }
     requires key { IsKeyIn (shape_of bank.now) key }
     requires locked { has_lock d (view pass.old).log ≡ true }
-    requires stands { Represents (shape_of bank.now).texts (held_words d (view pass.old)) (known_state d (view pass.old)) }
+    requires stands { Represents (shape_of bank.now).texts (held_unboxed d (view pass.old)) (known_state d (view pass.old)) }
     requires left { 0 < (view pass.old).left }
     ensures pass { IsPassOf bank.now pass.new }
     ensures sections { stack_of pass.new ≡ stack_of pass.old }
@@ -89,7 +89,7 @@ pub(crate) fn getd_locked(
     requires dict { kind_in (shape_of bank.now).starts d ≡ kind.Dict }
     requires key { IsKeyIn (shape_of bank.now) key }
     requires locked { has_lock d (view pass.old).log ≡ true }
-    requires stands { Represents (shape_of bank.now).texts (held_words d (view pass.old)) (known_state d (view pass.old)) }
+    requires stands { Represents (shape_of bank.now).texts (held_unboxed d (view pass.old)) (known_state d (view pass.old)) }
     requires left { 0 < (view pass.old).left }
     ensures pass { IsPassOf bank.now pass.new }
     ensures sections { stack_of pass.new ≡ stack_of pass.old }

@@ -18,10 +18,10 @@ ghost use Rattle.ft_dict.specs.DictLooks.{IsFoundAt};
 
 use ft_bank::{Bank, Pass};
 use ft_keys::Way;
+use ft_layout::value_of;
 use ft_model::{Call, DictCall, Key, Raise, Reply, Value};
 use ft_search::{Looked, answer_look, look_up};
 use ft_section::{Look, Object};
-use ft_whole_tables::value_of;
 
 /// What is found at a key without the lock.
 #[derive(Clone, Copy)]

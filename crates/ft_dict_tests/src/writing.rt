@@ -5,7 +5,7 @@ ghost use Rattle.ft_model.specs.declared.script.Kind.TheVariants as kind;
 ghost use Rattle.ft_layout.specs.declared.slot.Stored.TheVariants.{Plain};
 ghost use Rattle.ft_layout.specs.Words.{FitsStored};
 ghost use Rattle.ft_trace.specs.Addresses.{class_of, slots};
-ghost use Rattle.ft_trace.specs.Holds.{held_words};
+ghost use Rattle.ft_trace.specs.Holds.{held_unboxed};
 ghost use Rattle.ft_trace.specs.Pictures.{entry_field};
 ghost use Rattle.ft_bank.specs.KeyHashes.{IsKeyIn};
 ghost use Rattle.ft_bank.specs.NewPasses.{IsOpening};
@@ -134,9 +134,9 @@ fn open(
     requires table { HasTable (shape_of bank.now) 0 at.0 (view writer.old) }
     requires entry { IsLiveEntry (shape_of bank.now) 0 at.0 at.1 key (view writer.old) }
     requires old_kind { old.0 ≡ entry_field (slots (class_of (table_id at.0)))
-        (held_words 0 (view writer.old)).table at.1 4 }
+        (held_unboxed 0 (view writer.old)).table at.1 4 }
     requires old_payload { old.1 ≡ entry_field (slots (class_of (table_id at.0)))
-        (held_words 0 (view writer.old)).table at.1 5 }
+        (held_unboxed 0 (view writer.old)).table at.1 5 }
     ensures pass { IsPassOf bank.now writer.new }
 {
     let _ = key;

@@ -65,7 +65,7 @@ gathered_steady v t n blank s =
       cursors = λ k. refl;
       owners = record { had = refl; found = refl };
       seen = le_trans (seen_both v u) (seen_up (ReadCounter n) (both v u));
-      still = record { even = s.even; hands = s.hands; used = s.used; owes = s.owes; flight = s.flight; stands = s.stands };
+      still = record { even = s.even; hands = s.hands; used = s.used; owes = s.owes; flight = s.flight; boxes = s.boxes; stands = s.stands };
     })
 
 -- it has taken the floor
@@ -83,7 +83,7 @@ floored_steady v n snap s = record {
   cursors = λ k. refl;
   owners = record { had = refl; found = refl };
   seen = seen_up (TakeFloor n snap) v;
-  still = record { even = s.even; hands = s.hands; used = s.used; owes = s.owes; flight = s.flight; stands = s.stands };
+  still = record { even = s.even; hands = s.hands; used = s.used; owes = s.owes; flight = s.flight; boxes = s.boxes; stands = s.stands };
 }
 
 -- it had given its tokens away, has taken others, and the floor
@@ -104,7 +104,7 @@ woken_steady v t k n snap blank s =
       cursors = λ j. refl;
       owners = record { had = refl; found = refl };
       seen = le_trans (seen_both (sender k v) u) (seen_up (TakeFloor n snap) (both (sender k v) u));
-      still = record { even = s.even; hands = s.hands; used = s.used; owes = s.owes; flight = s.flight; stands = s.stands };
+      still = record { even = s.even; hands = s.hands; used = s.used; owes = s.owes; flight = s.flight; boxes = s.boxes; stands = s.stands };
     })
 
 -- ---- a caller
@@ -193,7 +193,7 @@ rest_free e c r is at_rest done =
     let locks : (o : ℕ) → has_lock o v.log ≡ false = λ o.
     no_lock (has_lock o v.log) (sym (ap (λ sections. noted_in o sections + taken_in o nothing_taken) none) ∙ (sym (ap (λ own. noted_in o (stack_of c.pass).sections + taken_in o own) ready.own) ∙ ready.inside.1.locks o)) in
     let offline = sym (ap (λ (z : View). announces z.log) at_rest.pass) ∙ done.offline in
-    subst IsFree (sym at_rest.pass) (locks, s.hands, s.used, s.flight, s.owes, offline)
+    subst IsFree (sym at_rest.pass) (locks, s.hands, s.used, s.flight, s.owes, offline, s.boxes)
 
 pub rest_in : (v w : View) (c : Caller) (r : RestingCaller) (n : ℕ) → RestsAs c r → w ≡ view_after (ReadCounter n) (both v (rests r.pass)) → TakesIn v (view c.pass) w
 rest_in v w c r n at_rest is =

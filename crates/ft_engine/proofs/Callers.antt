@@ -12,6 +12,8 @@ use Rattle.ft_model.specs.Worlds.{cursor_at}
 use Rattle.ft_trace.specs.declared.Entry.{Entry}
 use Rattle.ft_trace.specs.declared.Shape.{Shape}
 use Rattle.ft_trace.specs.declared.View.{View}
+use Rattle.ft_trace.specs.declared.Act.TheVariants.{ReadCounter}
+use Rattle.ft_trace.specs.Acts.{both, view_after}
 use Rattle.ft_trace.specs.Hands.{cursor_in}
 use Rattle.ft_trace.specs.OwnCursors.{plain_entry}
 use Rattle.ft_trace.specs.Owners.{LocksOnly, SameOwners}
@@ -44,7 +46,7 @@ use Rattle.ft_engine.specs.Visits.{SameCallerWork}
 use Rattle.ft_engine.specs.Owning.{AreOwnedBy}
 use Rattle.ft_engine.proofs.WaitCounts.{last_of}
 use Rattle.ft_engine.proofs.KnownOwners.{again_owned, answered_owned, calm_owned, done_owned, refused_owned, up_owned, waits_on_owned, waits_owned}
-use Rattle.ft_engine.proofs.PassesAfter.{IsCalm, IsSteady, calm_steady, steady_in}
+use Rattle.ft_engine.proofs.PassesAfter.{IsCalm, IsSteady, calm_steady, ready_joined, steady_in}
 use Rattle.ft_engine.proofs.Keeping.{kept_again, kept_answered, kept_done, kept_refused, kept_waits, kept_waits_on}
 
 -- ---- a new caller
@@ -333,6 +335,20 @@ calm_work c q stack calm = steady_work c (record c { pass = q }) (same_but_pass 
 
 pub ready_of : (e : Engine) (c : Caller) → IsCallerOf e c → c.flight ≡ flight.Idle → IsReady e.bank c.pass
 ready_of e c is idle = subst (IsIn e.bank c.pass c.cursors.items) idle is.inside
+
+-- who took another in
+pub joined_caller : (e : Engine) (c : Caller) (q : Pass) (u : View) (n : ℕ) → IsCallerOf e c → c.flight ≡ flight.Idle → IsPassOf e.bank q → stack_of q ≡ stack_of c.pass → view q ≡ view_after (ReadCounter n) (both (view c.pass) u) → IsCallerOf e (record c { pass = q })
+joined_caller e c q u n is idle pass stack joined = record {
+  pass = pass;
+  inside = subst (IsIn e.bank q c.cursors.items) (sym idle) (ready_joined e.bank c.pass q u n (ready_of e c is idle) pass stack joined);
+  made = is.made ∙ sym (ap (λ (v : View). length v.entries) joined);
+  calls = is.calls;
+  few = is.few;
+  word = is.word;
+  left = let more : (view q).left ≡ (view c.pass).left + u.left = ap (λ (v : View). v.left) joined in let k = is.left in omega (arith, more, k);
+  cursors = λ number low. is.cursors number low ∙ sym (ap (λ (v : View). cursor_in number v.log) joined);
+  over = is.over;
+}
 
 -- ---- all callers of a new engine
 

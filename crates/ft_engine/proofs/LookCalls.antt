@@ -1,14 +1,11 @@
 -- What a caller has after a look.
 use Rattle.std.proofs.Common.{◌≡◌, ◌<◌, ◌+◌, ◌-◌, ℕ, true, false, List, [], ◌∷◌, ◌++◌, length, refl, sym, ap, ◌∙◌, subst, arith, None, Some}
-use Rattle.std.specs.Prelude.{Some, None, Option, not}
+use Rattle.std.specs.Prelude.{Some, None, Option}
 use Rattle.ft_model.specs.declared.call.Call.{Call}
 use Rattle.ft_model.specs.declared.call.Call.TheVariants as call
-use Rattle.ft_model.specs.declared.call.DictCall.{DictCall}
-use Rattle.ft_model.specs.declared.call.ListCall.{ListCall}
-use Rattle.ft_model.specs.declared.call.SetCall.{SetCall}
 use Rattle.ft_model.specs.declared.entry.Entry.{Entry as NamedEntry}
 use Rattle.ft_model.specs.declared.reply.Reply.{Reply}
-use Rattle.ft_model.specs.Calls.{is_locked_dict, is_locked_list, is_locked_set, moved_cursor}
+use Rattle.ft_model.specs.Calls.{moved_cursor}
 use Rattle.ft_trace.specs.declared.Entry.{Entry}
 use Rattle.ft_trace.specs.Owners.{SameOwners}
 use Rattle.ft_trace.proofs.Owning.{same_finds_more, same_locks_only}

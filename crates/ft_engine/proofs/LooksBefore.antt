@@ -18,6 +18,7 @@ use Rattle.ft_bank.specs.declared.pass.Pass.{Pass}
 use Rattle.ft_bank.specs.Passes.{view, DidNothing, IsPassOf}
 use Rattle.ft_bank.specs.PassSections.{Stack, stack_of, taken_in, nothing_taken}
 use Rattle.ft_bank.specs.Whole.{OnlyLoaded}
+use Rattle.ft_bank.proofs.BoxedSteps.{boxes_same}
 use Rattle.ft_bank.proofs.KnownAfterWrites.{same_work}
 use Rattle.ft_section.specs.declared.answers.Got.{Got}
 use Rattle.ft_section.specs.declared.answers.Got.TheVariants as got
@@ -235,7 +236,7 @@ module _ (b : Bank) (p q : Pass) (pass : IsPassOf b q) (stack : stack_of q ≡ s
       })) may
 
 loaded_none : (p q : Pass) → DidNothing p q → OnlyLoaded (view p) (view q)
-loaded_none p q same = subst (OnlyLoaded (view p)) (sym same.1) (record { work = same_work (view p); words = refl })
+loaded_none p q same = subst (OnlyLoaded (view p)) (sym same.1) (record { work = same_work (view p); words = refl; unboxed = λ o low has. refl; boxes = boxes_same (view p) })
 
 pub looked_making : (b : Bank) (p q : Pass) (called : Call) (objects : Objects) (found : Option Look) → IsPlain called → MayTry b p objects → IsPassOf b q → stack_of q ≡ stack_of p → IsLookedIfAny called p q found → IsMaking b q
 looked_making b p q called objects None plain may pass stack x = loaded_making b p q pass stack (loaded_none p q x) (may_making b p objects may)

@@ -25,7 +25,7 @@ use Rattle.ft_section.specs.declared.answers.Objects.{Objects}
 use Rattle.ft_section.specs.declared.answers.Stamp.{Stamp}
 use Rattle.ft_section.specs.declared.answers.Step.{Step}
 use Rattle.ft_section.specs.declared.answers.Step.TheVariants as step
-use Rattle.ft_section.specs.Locking.{FoundOwner, LocksWithin, OnlyLocked}
+use Rattle.ft_section.specs.Locking.{FoundOwner, OnlyLocked}
 use Rattle.ft_section.specs.LockTakings.{IsOf}
 use Rattle.ft_search.specs.MadeCalls.{MadeAs}
 use Rattle.ft_table_calls.specs.declared.adding.Added.{Added}

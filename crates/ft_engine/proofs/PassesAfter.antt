@@ -11,7 +11,7 @@ use Rattle.ft_trace.specs.Acts.{both, hands_over, has_lock, is_handed, view_afte
 use Rattle.ft_trace.specs.Addresses.{container_count}
 use Rattle.ft_trace.specs.Floors.{at_floor}
 use Rattle.ft_trace.specs.Hands.{cursor_in}
-use Rattle.ft_trace.specs.Holds.{held_words, known_state}
+use Rattle.ft_trace.specs.Holds.{held_unboxed, known_state}
 use Rattle.ft_trace.specs.Owners.{SameOwners}
 use Rattle.ft_trace.specs.BegunSections.{begun}
 use Rattle.ft_trace.specs.Pictures.{ContainerWords, Represents}
@@ -20,10 +20,12 @@ use Rattle.ft_trace.proofs.Owning.{owners_then}
 use Rattle.ft_trace.proofs.Seeing.{seen_up}
 use Rattle.ft_bank.specs.declared.bank.Bank.{Bank}
 use Rattle.ft_bank.specs.declared.pass.Pass.{Pass}
+use Rattle.ft_bank.specs.Locks.{KnowsSame}
 use Rattle.ft_bank.specs.Logs.{HasGrown}
 use Rattle.ft_bank.specs.Notes.{knowing}
 use Rattle.ft_bank.specs.Passes.{view, IsPassOf}
 use Rattle.ft_bank.specs.PassSections.{Stack, stack_of}
+use Rattle.ft_bank.proofs.DoneBoxes.{done_same}
 use Rattle.ft_bank.proofs.Logs.{noted_grown}
 use Rattle.ft_qsbr.specs.Collecting.{Collected, StaysOrGoes, loads_of}
 use Rattle.ft_qsbr.proofs.PassesStay.{begun_stays, collection_leaves, cursors_stay, floor_stays, given_or_kept, owners_stay, seen_stays, since_stays}
@@ -137,12 +139,12 @@ calm_then u v w a b = record {
 }
 
 -- what stands of locks stands where the pass knows the same
-stands_by : (v w : View) → IsStill v → w.shape ≡ v.shape → ((o : ℕ) → has_lock o w.log ≡ has_lock o v.log) → ((o : ℕ) → o < container_count v.shape → has_lock o v.log ≡ true → (held_words o w ≡ held_words o v) × (known_state o w ≡ known_state o v)) → (o : ℕ) → o < container_count w.shape → has_lock o w.log ≡ true → Represents w.shape.texts (held_words o w) (known_state o w)
+stands_by : (v w : View) → IsStill v → w.shape ≡ v.shape → ((o : ℕ) → has_lock o w.log ≡ has_lock o v.log) → ((o : ℕ) → o < container_count v.shape → has_lock o v.log ≡ true → KnowsSame o v w) → (o : ℕ) → o < container_count w.shape → has_lock o w.log ≡ true → Represents w.shape.texts (held_unboxed o w) (known_state o w)
 stands_by v w s shape locks words o low has =
     let low' : o < container_count v.shape = subst (λ (k : Shape). o < container_count k) shape low in
     let had : has_lock o v.log ≡ true = sym (locks o) ∙ has in
     let e = words o low' had in
-    subst (λ (x : Shape × ContainerWords × ContainerState). Represents x.0.texts x.1 x.2) (λ d. (sym shape d, sym e.0 d, sym e.1 d)) (s.stands o low' had)
+    subst (λ (x : Shape × ContainerWords × ContainerState). Represents x.0.texts x.1 x.2) (λ d. (sym shape d, sym e.2 d, sym e.1 d)) (s.stands o low' had)
 
 -- ---- one step
 
@@ -163,7 +165,7 @@ counted_calm v n s = record {
   owners = record { had = refl; found = refl };
   seen = seen_up (ReadCounter n) v;
   grown = λ old was. inr was;
-  still = record { even = s.even; hands = s.hands; used = s.used; owes = s.owes; flight = s.flight; stands = s.stands };
+  still = record { even = s.even; hands = s.hands; used = s.used; owes = s.owes; flight = s.flight; boxes = s.boxes; stands = s.stands };
 }
 
 pub offline_calm : (v : View) (m : ℕ) → IsStill v → IsCalm v (view_after (Announce m 0) v)
@@ -183,7 +185,7 @@ offline_calm v m s = record {
   owners = record { had = refl; found = refl };
   seen = seen_up (Announce m 0) v;
   grown = λ old was. inr was;
-  still = record { even = s.even; hands = s.hands; used = s.used; owes = s.owes; flight = s.flight; stands = s.stands };
+  still = record { even = s.even; hands = s.hands; used = s.used; owes = s.owes; flight = s.flight; boxes = s.boxes; stands = s.stands };
 }
 
 pub collected_calm : (v w : View) (freed : ℕ) → IsStill v → Collected v w freed → IsCalm v w
@@ -216,6 +218,7 @@ collected_calm v w freed s x =
         used = keeps.used ∙ s.used;
         owes = x.owes s.owes;
         flight = x.idle;
+        boxes = done_same v w x.keeps.boxes s.boxes;
         stands = stands_by v w s keeps.shape keeps.locks keeps.words;
       };
     }
@@ -258,7 +261,7 @@ learnt_calm v m n told s = record {
   owners = record { had = refl; found = refl };
   seen = le_trans (max-le (le_trans (le-max_left v.learnt m) (le-max_left (max v.learnt m) (shown v.log))) (le-max_right (max v.learnt m) (shown v.log))) (seen_up (ReadCounter n) (knowing m told v));
   grown = λ old was. inr (inr was);
-  still = record { even = s.even; hands = s.hands; used = s.used; owes = s.owes; flight = s.flight; stands = s.stands };
+  still = record { even = s.even; hands = s.hands; used = s.used; owes = s.owes; flight = s.flight; boxes = s.boxes; stands = s.stands };
 }
 
 -- it has taken another pass in: it has the same sections and locks
@@ -267,7 +270,7 @@ over_or_was true n was = inr refl
 over_or_was false n was = was
 
 pub joined_still : (v u : View) (n : ℕ) → IsStill v → IsStill (view_after (ReadCounter n) (both v u))
-joined_still v u n s = record { even = s.even; hands = λ t. over_or_was (is_handed t (hands_over u.log)) (stage t v.log) (s.hands t); used = s.used; owes = s.owes; flight = s.flight; stands = s.stands }
+joined_still v u n s = record { even = s.even; hands = λ t. over_or_was (is_handed t (hands_over u.log)) (stage t v.log) (s.hands t); used = s.used; owes = s.owes; flight = s.flight; boxes = s.boxes; stands = s.stands }
 
 pub ready_joined : (b : Bank) (p q : Pass) (u : View) (n : ℕ) → IsReady b p → IsPassOf b q → stack_of q ≡ stack_of p → view q ≡ view_after (ReadCounter n) (both (view p) u) → IsReady b q
 ready_joined b p q u n r pass stack is =
@@ -300,7 +303,7 @@ enters_calm v n m s = record {
   owners = record { had = refl; found = refl };
   seen = le_trans (seen_up (WriteNumber n) v) (seen_up (Announce m n) (view_after (WriteNumber n) v));
   grown = λ old was. inr (inr was);
-  still = record { even = s.even; hands = s.hands; used = s.used; owes = s.owes; flight = s.flight; stands = s.stands };
+  still = record { even = s.even; hands = s.hands; used = s.used; owes = s.owes; flight = s.flight; boxes = s.boxes; stands = s.stands };
 }
 
 pub quiesced_calm : (v w : View) → IsStill v → (n : ℕ) × (freed : ℕ) × Collected (view_after (Announce v.number n) (view_after (WriteNumber n) v)) w freed → IsCalm v w

@@ -1,10 +1,9 @@
 -- What is told of passes that were online while they made their entries, as one takes in another.
-use Rattle.std.proofs.Common.{◌≡◌, ◌≢◌, ◌+◌, ◌-◌, ℕ, zero, suc, List, [], ◌∷◌, ◌++◌, length, refl, sym, ap, ◌∙◌, subst, arith}
+use Rattle.std.proofs.Common.{◌≡◌, ◌≢◌, ◌+◌, ◌-◌, ℕ, suc, List, [], ◌∷◌, ◌++◌, length, refl, sym, ap, ◌∙◌, subst, arith}
 use Rattle.std.specs.Prelude.{slice_get}
 use Rattle.ft_trace.specs.declared.Entry.{Entry}
 use Rattle.ft_trace.specs.declared.Told.{Told}
-use Rattle.ft_trace.specs.declared.View.{View}
-use Rattle.ft_trace.specs.Acts.{all_lists, lists_of, own_told, presence_of, seen_writes, tells, told_in}
+use Rattle.ft_trace.specs.Acts.{all_lists, own_told, presence_of, seen_writes, tells, told_in}
 use Rattle.ft_trace.proofs.Cases.{miss}
 use Rattle.ft_bank.specs.Closings.{AreToldOnline, IsToldOnline, HasBeenOnline}
 use Rattle.ft_bank.specs.Passes.{view}

@@ -1,7 +1,8 @@
 -- `contents`: loads of all containers by a caller with the floor show what their words stand for.
-use Rattle.std.proofs.Common.{◌≡◌, ◌-◌, ◌<◌, ℕ, zero, suc, List, [], ◌∷◌, ◌++◌, get_or, length, map, refl, sym, ap, ◌∙◌, subst, arith, inl, inr, ◌⊎◌}
+use Rattle.std.proofs.Common.{◌≡◌, ◌≢◌, ◌-◌, ◌/◌, ◌<◌, ℕ, zero, suc, List, [], ◌∷◌, ◌++◌, get_or, length, map, refl, sym, ap, ◌∙◌, subst, arith, inl, inr, ◌⊎◌}
 use Rattle.std.specs.Prelude.{slice_get, slice_index, None, Some, Option, Ok, Vec}
 use Rattle.std.specs.declared.alloc.Global.{Global}
+use Rattle.std.proofs.Math.Bridge.{le_prop}
 use Rattle.std.proofs.Math.Logic.{∥∥₁_elim}
 use Rattle.std.proofs.Math.Nat.{ℕ_set}
 use Rattle.ft_model.specs.declared.content.Content.{Content}
@@ -24,20 +25,26 @@ use Rattle.ft_keys.specs.declared.walk.Way.{Way}
 use Rattle.ft_keys.specs.declared.walk.Way.TheVariants as way
 use Rattle.ft_layout.specs.Containers.{StandsAs}
 use Rattle.ft_trace.specs.declared.Act.{Act}
-use Rattle.ft_trace.specs.declared.Act.TheVariants.{ReadBlock, ReadCounter, ReadRoot, ReadTable, Version}
+use Rattle.ft_trace.specs.declared.Act.TheVariants.{ReadBlock, ReadCounter, ReadBox, ReadRoot, ReadTable, Version}
 use Rattle.ft_trace.specs.declared.Entry.{Entry}
 use Rattle.ft_trace.specs.declared.Owner.{Owner}
 use Rattle.ft_trace.specs.declared.Told.{Told}
 use Rattle.ft_trace.specs.declared.Shape.{Shape}
 use Rattle.ft_trace.specs.declared.View.{View}
 use Rattle.ft_trace.specs.Acts.{floor_words, place, told_in, Reports}
-use Rattle.ft_trace.specs.Addresses.{at, container_count}
+use Rattle.ft_trace.specs.Addresses.{at, container_count, maker_of, place_in, place_word_of, IsBoxName}
 use Rattle.ft_trace.specs.ContainerStates.{kind_in}
 use Rattle.ft_trace.specs.LoggedReads.{Agrees, Among}
-use Rattle.ft_trace.specs.Pictures.{ContainerWords, inner, picture, root_of}
-use Rattle.ft_trace.specs.Traces.{IsReachable, word}
+use Rattle.ft_trace.specs.Boxes.{named_in_all, named_in_root}
+use Rattle.ft_trace.specs.BoxTraces.{references}
+use Rattle.ft_trace.specs.Unboxed.{box_word_in, unboxed}
+use Rattle.ft_trace.specs.Pictures.{ContainerWords, inner, picture, root_in, root_of}
+use Rattle.ft_trace.specs.Traces.{IsReachable, run, word}
+use Rattle.ft_trace.proofs.BoxValues.{box_name, box_there}
 use Rattle.ft_trace.proofs.Floored.{floored}
+use Rattle.ft_trace.proofs.NamedBoxes.{named_low}
 use Rattle.ft_trace.proofs.Pieces.{block_at, table_at}
+use Rattle.ft_trace.proofs.PlainPuts.{named_is}
 use Rattle.ft_bank.specs.declared.pass.Pass.{Pass}
 use Rattle.ft_bank.specs.Passes.{shape_of, view, IsPassOf}
 use Rattle.ft_bank.specs.PassSections.{stack_of}
@@ -48,14 +55,14 @@ use Rattle.ft_section.specs.Ready.{IsStill}
 use Rattle.ft_search.specs.Floors.{LooksWithFloor}
 use Rattle.ft_search.specs.Rounds.{kind_by}
 use Rattle.ft_search.proofs.ReadMidst.{still_loaded}
-use Rattle.ft_search.proofs.Rounding.{looks_append, looks_load}
+use Rattle.ft_search.proofs.Rounding.{looks_append, looks_did}
 use Rattle.ft_search.specs.KeyLooks.{AreLooks}
 use Rattle.ft_search.proofs.Running.{did_log, did_none, did_trans}
 use Rattle.ft_search.proofs.Undisturbed.{among_found}
 use Rattle.ft_list.specs.Scans.{IsOfItems}
 use Rattle.ft_reads.specs.Copies.{AreCopied}
-use Rattle.ft_reads.specs.Reads.{Reads}
-use Rattle.ft_reads.proofs.Agreeing.{agrees_newer, agrees_older}
+use Rattle.ft_reads.specs.Reads.{AgreesRead, Reads, ShowsRead}
+use Rattle.ft_reads.proofs.Agreeing.{read_newer, read_older}
 use Rattle.ft_whole_tables.specs.Items.{IsAllIn}
 use Rattle.ft_engine.specs.declared.caller.Caller.{Caller}
 use Rattle.ft_engine.specs.declared.engine.Engine.{Engine}
@@ -124,17 +131,23 @@ push_found (z ∷ l) x y (suc n) at =
       | inr last ↦ inr (ap suc last.0, last.1)
     ]
 
-push_read : (k : Shape) (a b : List Act) (all : List Shown) (one : Shown) → AreReadBy k a all → ((x : ContainerWords) → Agrees k (length all) b x → IsShownAs k (length all) one x) → AreReadBy k (b ++ a) (all ++ one ∷ [])
-push_read k a b all one each last o shown at x agrees =
+push_read : (k : Shape) (a b : List Act) (all : List Shown) (one : Shown) → AreReadBy k a all → ShowsRead k (length all) b (IsShownAs k (length all) one) → AreReadBy k (b ++ a) (all ++ one ∷ [])
+push_read k a b all one each last o shown at x box agrees =
     elim (push_found all one shown o at) [
-      | inl found ↦ each o shown found x (agrees_older k o x b a agrees)
+      | inl found ↦ each o shown found x box (read_older k o x box b a agrees)
       | inr new ↦
           let same = sym new.0 in
-          subst (λ (z : ℕ × Shown). IsShownAs k z.0 z.1 x) (λ d. (same d, new.1 d)) (last x (subst (λ (z : ℕ). Agrees k z b x) new.0 (agrees_newer k o x b a agrees)))
+          subst (λ (z : ℕ × Shown). IsShownAs k z.0 z.1 (unboxed box (kind_in k.starts z.0) x)) (λ d. (same d, new.1 d)) (last x box (subst (λ (z : ℕ). AgreesRead k z b x box) new.0 (read_newer k o x box b a agrees)))
     ]
 
+-- what is at a place is below the length
+shown_low : (all : List Shown) (o : ℕ) (one : Shown) → slice_get all o ≡ Some one → o < length all
+shown_low [] o one at = absurd (let none : None ≡ Some one = at in cc)
+shown_low (first ∷ all) zero one at = omega arith
+shown_low (first ∷ all) (suc o) one at = let low = shown_low all o one at in omega (arith, low)
+
 none_read : (k : Shape) (part : List Act) → AreReadBy k part []
-none_read k part o shown at x agrees = absurd (let none : None ≡ Some shown = at in cc)
+none_read k part o shown at x box agrees = absurd (let none : None ≡ Some shown = at in cc)
 
 -- nothing was read yet
 pub reads_start : (k : Shape) (p : Pass) → ReadsFirst k [] p p
@@ -163,7 +176,7 @@ module _ (w : View) (part : List Act) (possible : ∥ IsReachable w ∥₁) (l :
       ∥∥₁_elim possible (ℕ_set f (slice_index ws (at w.shape (place a))))
       (λ p. says (word w.shape p.0 (place a)) (among_found w part p l a m) ∙ ap (λ (xs : List ℕ). slice_index xs (at w.shape (place a))) (sym ((floored w.shape p.0 p.2.0 p.1 w p.2.1).has l.floor).1))
 
-  pub agrees_known : (o : ℕ) → Agrees w.shape o part (picture w.shape o ws)
+  agrees_known : (o : ℕ) → Agrees w.shape o part (picture w.shape o ws)
   agrees_known o =
       let k = w.shape in
       record {
@@ -173,6 +186,30 @@ module _ (w : View) (part : List Act) (possible : ∥ IsReachable w ∥₁) (l :
             let root : root_of k o ws ≡ suc t = sym (block_at k o ws 0 (omega arith)) ∙ names in
             found_known (ReadTable t i f) f (λ n says. says) m ∙ (sym (table_at k t ws i low) ∙ ap (λ (r : ℕ). slice_index (inner k r ws) i) (sym root));
       }
+
+  -- each box that the words of a container name is one of the bank
+  names_known : (o b : ℕ) → o < container_count w.shape → named_in_root b (kind_in w.shape.starts o) (root_in (picture w.shape o ws)) (picture w.shape o ws).table ≢ 0 → IsBoxName w.shape b
+  names_known o b low names =
+      let k = w.shape in
+      let by : IsReachable w → IsBoxName k b = λ p.
+      let es = p.0 in
+      let now : ws ≡ (run k es).words = ((floored k es p.2.0 p.1 w p.2.1).has l.floor).1 in
+      let n = named_is k o b ws in
+      let all = named_low k b o ws low in
+      let same : named_in_all k b ws ≡ named_in_all k b (run k es).words = ap (named_in_all k b) now in
+      let some_ : references k b es ≢ 0 = λ z. names (omega (arith, n, all, same, z)) in
+      let up = box_there k b es p.2.0 some_ in
+      box_name k b es p.2.0 (λ z. absurd (omega (arith, up, z))) in (
+        ∥∥₁_elim {P = maker_of b < k.passes} possible le_prop (λ p. (by p).0),
+        ∥∥₁_elim {P = place_in b < k.heap} possible le_prop (λ p. (by p).1),
+        ∥∥₁_elim {P = place_word_of b < k.heap / 64} possible le_prop (λ p. (by p).2),
+      )
+
+  pub read_known : (o : ℕ) → o < container_count w.shape → AgreesRead w.shape o part (picture w.shape o ws) (box_word_in w.shape ws)
+  read_known o low = (
+    agrees_known o,
+    λ b names. (names_known o b low names, λ i f which m. found_known (ReadBox b i f) f (λ n says. says) m),
+  )
 
 -- ---- a caller
 
@@ -201,6 +238,7 @@ looks_told (ReadBlock o i f ∷ l) rest q = looks_told l rest q
 looks_told (ReadRoot o f ∷ l) rest q = looks_told l rest q
 looks_told (ReadTable t i f ∷ l) rest q = looks_told l rest q
 looks_told (ReadCounter f ∷ l) rest q = looks_told l rest q
+looks_told (ReadBox c j f ∷ l) rest q = looks_told l rest q
 looks_told (act ∷ l) rest q = absurd q
 
 -- the lists of a caller and of those that it took in, where its pass has done nothing that they speak of
@@ -221,7 +259,7 @@ module _ (e : Engine) (c : Caller) (q : Pass) (all : List Shown) (is : IsCallerO
   now = record c { pass = q }
 
   only_loaded : OnlyLoaded (view c.pass) (view q)
-  only_loaded = subst (OnlyLoaded (view c.pass)) (sym r.2.1) (looks_load r.0 (view c.pass) r.1)
+  only_loaded = looks_did r.0 c.pass q r.1 r.2
 
   read_steady : IsSteady (view c.pass) (view q)
   read_steady = loaded_steady (view c.pass) (view q) only_loaded (still_of e c is)
@@ -254,6 +292,8 @@ module _ (e : Engine) (c : Caller) (q : Pass) (all : List Shown) (is : IsCallerO
       (record {
         count = count;
         each = λ o shown at.
-            let agrees = agrees_known w r.0 q.possible (looks_now has) o in
-            r.3 o shown at (picture k o (floor_words k w.number w.log)) (subst (λ (s : Shape). Agrees s o r.0 (picture s o (floor_words s w.number w.log))) pass.1 agrees);
+            let here : o < container_count k = subst (λ (n : ℕ). o < n) count (shown_low all o shown at) in
+            let low : o < container_count w.shape = subst (λ (s : Shape). o < container_count s) (sym pass.1) here in
+            let agrees = read_known w r.0 q.possible (looks_now has) o low in
+            r.3 o shown at (picture k o (floor_words k w.number w.log)) (box_word_in k (floor_words k w.number w.log)) (subst (λ (s : Shape). AgreesRead s o r.0 (picture s o (floor_words s w.number w.log)) (box_word_in s (floor_words s w.number w.log))) pass.1 agrees);
       })

@@ -12,7 +12,6 @@ use Rattle.ft_model.specs.Histories.{IsCountedAs}
 use Rattle.ft_trace.specs.declared.Act.{Act}
 use Rattle.ft_trace.specs.declared.Act.TheVariants.{Announce, Answer, ReadCounter, WriteNumber}
 use Rattle.ft_trace.specs.declared.Entry.{Entry}
-use Rattle.ft_trace.specs.declared.Presence.TheVariants as presence
 use Rattle.ft_trace.specs.declared.View.{View}
 use Rattle.ft_trace.specs.Acts.{announces, has_lock, view_after, seen_writes, presence_after_entry, presence_after_announcing, presence_of}
 use Rattle.ft_trace.specs.Floors.{at_floor}
@@ -276,7 +275,7 @@ pub ready_resumes : (b : Bank) (p : Pass) → IsReady b p → MayResume b p
 ready_resumes b p r = record { inside = r.inside; own = λ outer top split. inl r.own; none = λ nil. r.own }
 
 answered_still : (called : Call) (said : Reply) (n : ℕ) (v : View) → IsStill v → IsStill (answered_view called said n v)
-answered_still called said n v s = record { even = s.even; hands = s.hands; used = s.used; owes = s.owes; flight = s.flight; stands = s.stands }
+answered_still called said n v s = record { even = s.even; hands = s.hands; used = s.used; owes = s.owes; flight = s.flight; boxes = s.boxes; stands = s.stands }
 
 -- a call that opens and closes no section
 pub ready_answered : (called : Call) (said : Reply) (b : Bank) (q r : Pass) (n : ℕ) → begun (answered_view called said n (view q)).log ≡ begun (view q).log → IsReady b q → IsPassOf b r → stack_of r ≡ stack_of q → view r ≡ answered_view called said n (view q) → IsReady b r

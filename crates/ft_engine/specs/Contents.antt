@@ -10,11 +10,10 @@ use Rattle.ft_model.specs.Numbers.{IsHistoryOf}
 use Rattle.ft_model.specs.Worlds.{starts_of}
 use Rattle.ft_trace.specs.declared.Act.{Act}
 use Rattle.ft_trace.specs.declared.Shape.{Shape}
-use Rattle.ft_trace.specs.LoggedReads.{Agrees}
-use Rattle.ft_trace.specs.Pictures.{ContainerWords}
 use Rattle.ft_bank.specs.declared.pass.Pass.{Pass}
 use Rattle.ft_bank.specs.Passes.{view}
 use Rattle.ft_bank.specs.Series.{DidAll}
+use Rattle.ft_reads.specs.Reads.{ShowsRead}
 use Rattle.ft_search.specs.KeyLooks.{AreLooks}
 use Rattle.ft_bank_history.specs.LastContents.{AreShownTo, IsShownAs}
 use Rattle.ft_engine.specs.declared.caller.Caller.{Caller}
@@ -24,11 +23,11 @@ use Rattle.ft_engine.specs.Presences.{WereOnline}
 
 -- ---- reads of one container after the other
 
--- these are shown of the first containers, in the order of declaration, by all words that answer as the loads did
+-- these are shown of the first containers, in the order of declaration, by all words that answer as the loads did, as
+-- they read
 abbrev pub AreReadBy : Shape → List Act → List Shown → Type 0
 AreReadBy k part all =
-    (o : ℕ) (shown : Shown) → slice_get all o ≡ Some shown → (x : ContainerWords) → Agrees k o part x
-    → IsShownAs k o shown x
+    (o : ℕ) (shown : Shown) → slice_get all o ≡ Some shown → ShowsRead k o part (IsShownAs k o shown)
 
 -- the pass only loaded words, and these are shown by them
 abbrev pub ReadsFirst : Shape → List Shown → Pass → Pass → Type 0

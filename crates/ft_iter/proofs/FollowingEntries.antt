@@ -13,7 +13,7 @@ use Rattle.ft_layout.specs.declared.slot.Stored.{Stored}
 use Rattle.ft_layout.specs.Words.{IsEntry, key_kind, gone_kind}
 use Rattle.ft_keys.specs.declared.walk.Way.{Way}
 use Rattle.ft_keys.specs.Ways.{IsTableOf}
-use Rattle.ft_iter.specs.Seeking.{is_there, IsFirstAfter, IsFirstThere, FindsNext, Seeks}
+use Rattle.ft_iter.specs.Seeking.{is_there, IsFirstAfter, IsFirstThere, FindsNext, SameMarks, Seeks}
 
 module _ {A : Type 0} (f g : A → Bool) where
   -- neither there nor looked for
@@ -108,10 +108,24 @@ module _ (mask : ℕ) (words : List ℕ) (fill : ℕ) (way : Way) (texts : List 
       none-found (λ e. is_after last e.serial) is_live used
       (λ q any small. dite (dec_lt q from) (λ (less : q < from). inr (early q any less)) (λ more. inl (sym (entry q any (omega (arith, small, filled))).0 ∙ first q (omega (arith, more)) (omega (arith, small, filled)))))
 
+-- of words with the same marks
+module _ (mask : ℕ) (words read : List ℕ) (same : SameMarks mask words read) where
+  first-read : (fill last place : ℕ) → IsFirstAfter mask words fill last place → IsFirstAfter mask read fill last place
+  first-read fill last place first = (
+    λ before at. subst (λ (z : ℕ). z ≤ last) (sym (same before 6 (inr refl))) (first.0 before at),
+    λ small. subst (λ (z : ℕ). last < z) (sym (same place 6 (inr refl))) (first.1 small),
+  )
+
+  there-read : (from fill : ℕ) (place : Option ℕ) → IsFirstThere mask words from fill place → IsFirstThere mask read from fill place
+  there-read from fill (Some place) first =
+      (first.0, first.1, ap is_there (same place 2 (inl refl)) ∙ first.2, λ other more below. ap is_there (same other 2 (inl refl)) ∙ first.3 other more below)
+  there-read from fill None first = λ other more below. ap is_there (same other 2 (inl refl)) ∙ first other more below
+
 pub seeks-after : (mask : ℕ) (words : List ℕ) (fill last from : ℕ) (place : Option ℕ) → from ≤ fill → IsFirstAfter mask words fill last from → IsFirstThere mask words from fill place → Seeks mask words fill (Some last) place
-seeks-after mask words fill last from place low first there way texts used table filled =
-    follows mask words fill way texts used table filled (Some last) from place (before mask words fill way texts used table filled last from low first) (later mask words fill way texts used table filled last from low first) there
+seeks-after mask words fill last from place low first there read same way texts used table filled =
+    let first' = first-read mask words read same fill last from first in
+    follows mask read fill way texts used table filled (Some last) from place (before mask read fill way texts used table filled last from low first') (later mask read fill way texts used table filled last from low first') (there-read mask words read same from fill place there)
 
 pub seeks-first : (mask : ℕ) (words : List ℕ) (fill : ℕ) (place : Option ℕ) → IsFirstThere mask words 0 fill place → Seeks mask words fill None place
-seeks-first mask words fill place there way texts used table filled =
-    follows mask words fill way texts used table filled None 0 place (λ q any below. absurd (omega (arith, below))) (λ q any more small. refl) there
+seeks-first mask words fill place there read same way texts used table filled =
+    follows mask read fill way texts used table filled None 0 place (λ q any below. absurd (omega (arith, below))) (λ q any more small. refl) (there-read mask words read same 0 fill place there)

@@ -10,7 +10,7 @@ use Rattle.ft_layout.specs.declared.slot.Slot.TheVariants.{Live}
 use Rattle.ft_layout.specs.declared.slot.Stored.{Stored}
 use Rattle.ft_layout.specs.Tables.{UsedEntry, is_live, hash_of, slot_with, entry_word}
 use Rattle.ft_layout.specs.Words.{IsEntry}
-use Rattle.ft_iter.specs.Seeking.{Seeks, SaysPair, GivesPair}
+use Rattle.ft_iter.specs.Seeking.{SameMarks, Seeks, SaysPair, GivesPair}
 use Rattle.ft_keys.specs.TableChanges.{entry_of_pair}
 
 some-same : {A : Type 0} (x y : A) → Some x ≡ Some y → x ≡ y
@@ -35,14 +35,14 @@ of-entry : (word : ℕ → ℕ) (hash : ℕ) (k : Key) (serial : ℕ) (stored : 
 of-entry word hash k serial (Some value) given is live says = ap (option_map entry_of_pair) ((says (record { hash = hash; key = k; value = value; serial = serial })).0 is)
 of-entry word hash k serial None given is live says = absurd (true≢false (sym live))
 
-pub gives-pair : (mask : ℕ) (ws : List ℕ) (fill : ℕ) (last : Option ℕ) (place : ℕ) (given : Option Pair) → Seeks mask ws fill last (Some place) → SaysPair mask ws place given → GivesPair mask ws fill last given
-gives-pair mask ws fill last place given seeks says way texts used table filled =
-    let s = seeks way texts used table filled in
+pub gives-pair : (mask : ℕ) (ws read : List ℕ) (fill : ℕ) (last : Option ℕ) (place : ℕ) (given : Option Pair) → SameMarks mask ws read → Seeks mask ws fill last (Some place) → SaysPair mask read place given → GivesPair mask read fill last given
+gives-pair mask ws read fill last place given same seeks says way texts used table filled =
+    let s = seeks read same way texts used table filled in
     let any : UsedEntry = record { key = key.Int (pos 0); serial = 0; stored = None } in
     let e = slice_index_or used place any in
     let is = s.1 any in
     let live = found-passes (λ entry. is_after last entry.serial) is_live used e is in
-    is ∙ sym (of-entry (entry_word mask ws place) (hash_of texts e.key) e.key e.serial e.stored given (table.entries place any s.0) live says)
+    is ∙ sym (of-entry (entry_word mask read place) (hash_of texts e.key) e.key e.serial e.stored given (table.entries place any s.0) live says)
 
-pub gives-none : (mask : ℕ) (ws : List ℕ) (fill : ℕ) (last : Option ℕ) → Seeks mask ws fill last None → GivesPair mask ws fill last None
-gives-none mask ws fill last seeks way texts used table filled = seeks way texts used table filled
+pub gives-none : (mask : ℕ) (ws read : List ℕ) (fill : ℕ) (last : Option ℕ) → SameMarks mask ws read → Seeks mask ws fill last None → GivesPair mask read fill last None
+gives-none mask ws read fill last same seeks way texts used table filled = seeks read same way texts used table filled

@@ -2,6 +2,7 @@ pub mod Probing
 pub mod Halving
 pub mod FollowingEntries
 pub mod Giving
+pub mod BoxedPairs
 pub mod NextContents
 pub mod Moves
 pub mod CursorEntries

@@ -14,7 +14,9 @@ use Rattle.ft_layout.specs.Tables.{UsedEntry, is_live, dict_room}
 use Rattle.ft_keys.specs.declared.walk.Way.TheVariants as way
 use Rattle.ft_trace.specs.Acts.{has_lock}
 use Rattle.ft_trace.specs.Holds.{known_state}
-use Rattle.ft_trace.specs.Kinds.{IsKeyed}
+use Rattle.ft_trace.specs.Addresses.{class_of, slots}
+use Rattle.ft_trace.specs.Kinds.{IsKeyed, rows}
+use Rattle.ft_model.specs.Worlds.{kind_of}
 use Rattle.ft_trace.specs.Traces.{IsReachable}
 use Rattle.ft_trace.specs.Pictures.{ContainerWords, root_in, Represents}
 use Rattle.ft_trace.specs.ContainerStates.{ContainerState, kind_in}
@@ -25,6 +27,7 @@ use Rattle.ft_bank.specs.declared.table.Table.{Table}
 use Rattle.ft_bank.specs.TableNames.{table_id, IsTableIn}
 use Rattle.ft_bank.proofs.TableAddresses.{class_is}
 use Rattle.ft_search.proofs.FoundInContents.{dict_known, set_known}
+use Rattle.ft_search.proofs.WordPlaces.{places_is, slots_is}
 use Rattle.ft_iter.specs.Following.{IsNextOf}
 use Rattle.ft_iter.specs.Seeking.{GivesPair}
 
@@ -93,6 +96,24 @@ module _ (texts : List ℕ) (x : ContainerWords) (kept : ContainerState) (stands
     pub fill-low : IsKeyedContent kept.content → slice_index x.block 2 ≤ dict_room mask
     fill-low (inl d) = let says = dict-says d in let few = says.table.fill in let is = says.filled in let fill = says.head.fill_is in omega (arith, few, is, fill)
     fill-low (inr s) = let says = set-says s in let few = says.table.fill in let is = says.filled in let fill = says.head.fill_is in let low = set-in-dict (mask + 1) in omega (arith, few, is, fill, low)
+
+    -- each of them has a version
+    pub fill-rows : (kd : Kind) → kind_of kept.content ≡ kd → IsKeyedContent kept.content → slice_index x.block 2 ≤ rows kd (class_of (table_id table))
+    unfolding slots
+    fill-rows kd of (inl d) =
+        let says = dict-says d in
+        let few = says.table.fill in
+        let is = says.filled in
+        let fill = says.head.fill_is in
+        let e = places_is k table mask in_bank refl in
+        subst (λ (z : Kind). slice_index x.block 2 ≤ rows z (class_of (table_id table))) (sym (ap kind_of d.1) ∙ of) (omega (arith, few, is, fill, e))
+    fill-rows kd of (inr s) =
+        let says = set-says s in
+        let few = says.table.fill in
+        let is = says.filled in
+        let fill = says.head.fill_is in
+        let e = slots_is k table mask in_bank refl in
+        subst (λ (z : Kind). slice_index x.block 2 ≤ rows z (class_of (table_id table))) (sym (ap kind_of s.1) ∙ of) (omega (arith, few, is, fill, e))
 
     pub next-held : (last : Option ℕ) (given : Option Pair) → IsKeyedContent kept.content → GivesPair mask words (slice_index x.block 2) last given → IsNextOf kept.content last given
     next-held last given (inl d) gives =

@@ -1,17 +1,21 @@
 -- Which entry of a table follows a serial, and how many loads it takes to find it.
-use Rattle.std.specs.Prelude.{◌≡◌, ℕ, ◌+◌, ◌^◌, ◌<◌, ◌≤◌, ◌==◌, ◌&&◌, ◌||◌, Bool, true, false, not, List, [], ◌∷◌, length, filter, Option, Some, None, slice_index_or, option_map, ◌↔◌, if◌then◌else◌}
+use Rattle.std.specs.Prelude.{◌≡◌, ◌⊎◌, ℕ, ◌+◌, ◌^◌, ◌<◌, ◌≤◌, ◌==◌, ◌&&◌, ◌||◌, Bool, true, false, not, List, [], ◌∷◌, length, filter, Option, Some, None, slice_index, slice_index_or, option_map, ◌↔◌, if◌then◌else◌}
 use Rattle.std.specs.List.{find}
 use Rattle.ft_model.specs.Cursors.{is_after}
 use Rattle.ft_layout.specs.declared.slot.Pair.{Pair}
+use Rattle.ft_layout.specs.declared.slot.Slot.{Slot}
 use Rattle.ft_layout.specs.declared.slot.Slot.TheVariants.{Live}
 use Rattle.ft_layout.specs.Tables.{UsedEntry, is_live, entry_word}
 use Rattle.ft_layout.specs.Words.{IsEntry}
+use Rattle.ft_trace.specs.declared.View.{View}
+use Rattle.ft_bank.specs.BoxSteps.{kind_read, payload_read}
 use Rattle.ft_keys.specs.declared.walk.Way.{Way}
 use Rattle.ft_keys.specs.declared.words.Access.{Access}
 use Rattle.ft_keys.specs.declared.words.Access.TheVariants.{Index, Entry, PutIndex, PutEntry, OldEntry}
 use Rattle.ft_keys.specs.Accesses.{Runs, AreLoads, AreAnswered}
 use Rattle.ft_keys.specs.Ways.{IsTableOf}
 use Rattle.ft_keys.specs.TableChanges.{entry_of_pair}
+use Rattle.ft_iter.specs.declared.pairs.PairWords.{PairWords}
 
 -- ---- loads
 
@@ -81,11 +85,30 @@ FindsNext used last (Some place) =
     ≡ Some (slice_index_or used place any))
 FindsNext used last None = find (λ entry. is_after last entry.serial) (filter is_live used) ≡ None
 
--- in a table with this many used entries, whichever they are
+-- the words by which an entry is found, the kinds of the keys and the serials, are the same in both
+abbrev pub SameMarks : ℕ → List ℕ → List ℕ → Type 0
+SameMarks mask words read =
+    (place word : ℕ) → (word ≡ 2) ⊎ (word ≡ 6) → entry_word mask read place word ≡ entry_word mask words place word
+
+-- in a table with this many used entries, whichever they are; its values may be read elsewhere than in these words
 abbrev pub Seeks : ℕ → List ℕ → ℕ → Option ℕ → Option ℕ → Type 0
 Seeks mask words fill last place =
-    (way : Way) (texts : List ℕ) (used : List UsedEntry) → IsTableOf way texts mask used words → length used ≡ fill
+    (read : List ℕ) → SameMarks mask words read
+    → (way : Way) (texts : List ℕ) (used : List UsedEntry) → IsTableOf way texts mask used read → length used ≡ fill
     → FindsNext used last place
+
+-- the words that say the pair of the entry at the place, as they stand there
+abbrev pub HasEntry : ℕ → List ℕ → ℕ → PairWords → Type 0
+HasEntry mask words place found =
+    (found.hash ≡ entry_word mask words place 1) × (found.key_kind ≡ entry_word mask words place 2)
+    × (found.key ≡ entry_word mask words place 3) × (found.value_kind ≡ entry_word mask words place 4)
+    × (found.value ≡ entry_word mask words place 5) × (found.serial ≡ entry_word mask words place 6)
+
+-- they are those of the entry that is sought, if there is one
+abbrev pub FindsWords : ℕ → List ℕ → ℕ → Option ℕ → Option PairWords → Type 0
+FindsWords mask words fill last (Some found) =
+    (place : ℕ) × (place < fill) × Seeks mask words fill last (Some place) × HasEntry mask words place found
+FindsWords mask words fill last None = Seeks mask words fill last None
 
 -- ---- the pair that is given
 
@@ -100,3 +123,19 @@ abbrev pub GivesPair : ℕ → List ℕ → ℕ → Option ℕ → Option Pair �
 GivesPair mask words fill last given =
     (way : Way) (texts : List ℕ) (used : List UsedEntry) → IsTableOf way texts mask used words → length used ≡ fill
     → find (λ entry. is_after last entry.serial) (filter is_live used) ≡ option_map entry_of_pair given
+
+-- these words of an entry say the slot, the value through its box where it has one
+abbrev pub SaysEntry : View → PairWords → Slot → Type 0
+SaysEntry v found slot =
+    IsEntry
+    (slice_index
+    (0
+    ∷ (found.hash
+    ∷ (found.key_kind
+    ∷ (found.key
+    ∷ (kind_read v found.value_kind found.value
+    ∷ (payload_read v found.value_kind found.value
+    ∷ (found.serial
+    ∷ (0
+    ∷ [])))))))))
+    slot

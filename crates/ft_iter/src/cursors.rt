@@ -8,7 +8,7 @@ ghost use Rattle.ft_trace.specs.declared.Act.{Act};
 ghost use Rattle.ft_trace.specs.declared.Act.TheVariants.{AnswerCursor, ReadCounter};
 ghost use Rattle.ft_trace.specs.Acts.{has_lock, view_after, seen_writes};
 ghost use Rattle.ft_trace.specs.Addresses.{container_count};
-ghost use Rattle.ft_trace.specs.Holds.{held_words, known_state};
+ghost use Rattle.ft_trace.specs.Holds.{held_unboxed, known_state};
 ghost use Rattle.ft_trace.specs.Pictures.{Represents};
 ghost use Rattle.ft_trace.specs.ContainerStates.{kind_in};
 ghost use Rattle.ft_trace.specs.Kinds.{HasVersions};
@@ -65,7 +65,7 @@ fn step(bank: &Bank, pass: &mut Pass, cursor: Cursor) -> Advanced
     requires kind { kind_in (shape_of bank.now).starts (container_of cursor) ≡ cursor_kind cursor }
     requires landed { is_landed_cursor cursor ≡ true }
     requires locked { has_lock (container_of cursor) (view pass.old).log ≡ true }
-    requires stands { Represents (shape_of bank.now).texts (held_words (container_of cursor) (view pass.old)) (known_state (container_of cursor) (view pass.old)) }
+    requires stands { Represents (shape_of bank.now).texts (held_unboxed (container_of cursor) (view pass.old)) (known_state (container_of cursor) (view pass.old)) }
     ensures pass { IsPassOf bank.now pass.new }
     ensures looks { (part : List Act) × AreLooks part × DidAll part pass.old pass.new }
     ensures next { IsStep result (step_in (known_state (container_of cursor) (view pass.old)).content cursor) }
@@ -101,7 +101,7 @@ fn next_locked(bank: &Bank, pass: &mut Pass, number: u32, cursor: &mut Cursor) -
     requires kind { kind_in (shape_of bank.now).starts (container_of cursor.old) ≡ cursor_kind cursor.old }
     requires landed { is_landed_cursor cursor.old ≡ true }
     requires locked { has_lock (container_of cursor.old) (view pass.old).log ≡ true }
-    requires stands { Represents (shape_of bank.now).texts (held_words (container_of cursor.old) (view pass.old)) (known_state (container_of cursor.old) (view pass.old)) }
+    requires stands { Represents (shape_of bank.now).texts (held_unboxed (container_of cursor.old) (view pass.old)) (known_state (container_of cursor.old) (view pass.old)) }
     requires left { 0 < (view pass.old).left }
     requires cursor { cursor_under pass.old number ≡ Some cursor.old }
     ensures pass { IsPassOf bank.now pass.new }
@@ -214,7 +214,7 @@ fn iter_locked(
     requires container { o < container_count (shape_of bank.now) }
     requires kind { kind_in (shape_of bank.now).starts o ≡ kind }
     requires locked { has_lock o (view pass.old).log ≡ true }
-    requires stands { Represents (shape_of bank.now).texts (held_words o (view pass.old)) (known_state o (view pass.old)) }
+    requires stands { Represents (shape_of bank.now).texts (held_unboxed o (view pass.old)) (known_state o (view pass.old)) }
     requires left { 0 < (view pass.old).left }
     ensures pass { IsPassOf bank.now pass.new }
     ensures sections { stack_of pass.new ≡ stack_of pass.old }

@@ -13,7 +13,7 @@ ghost use Rattle.ft_layout.specs.Containers.{used_pair, used_element};
 ghost use Rattle.ft_trace.specs.declared.Act.{Act};
 ghost use Rattle.ft_trace.specs.Acts.{has_lock};
 ghost use Rattle.ft_trace.specs.Addresses.{container_count};
-ghost use Rattle.ft_trace.specs.Holds.{held_words, known_state};
+ghost use Rattle.ft_trace.specs.Holds.{held_unboxed, known_state};
 ghost use Rattle.ft_trace.specs.Pictures.{Represents};
 ghost use Rattle.ft_trace.specs.ContainerStates.{kind_in};
 ghost use Rattle.ft_bank.specs.Passes.{shape_of, view, IsPassOf};
@@ -76,7 +76,7 @@ fn walk_dict(
     requires container { container < container_count (shape_of bank.now) }
     requires dict { kind_in (shape_of bank.now).starts container ≡ kind.Dict }
     requires locked { has_lock container (view pass.old).log ≡ true }
-    requires stands { Represents (shape_of bank.now).texts (held_words container (view pass.old)) (known_state container (view pass.old)) }
+    requires stands { Represents (shape_of bank.now).texts (held_unboxed container (view pass.old)) (known_state container (view pass.old)) }
     ensures pass { IsPassOf bank.now pass.new }
     ensures looks { (part : List Act) × AreLooks part × DidAll part pass.old pass.new }
     ensures next { (d : DictContent) → (known_state container (view pass.old)).content ≡ content.Dict d →
@@ -124,7 +124,7 @@ pub(crate) fn next_dict(
     requires container { container < container_count (shape_of bank.now) }
     requires dict { kind_in (shape_of bank.now).starts container ≡ kind.Dict }
     requires locked { has_lock container (view pass.old).log ≡ true }
-    requires stands { Represents (shape_of bank.now).texts (held_words container (view pass.old)) (known_state container (view pass.old)) }
+    requires stands { Represents (shape_of bank.now).texts (held_unboxed container (view pass.old)) (known_state container (view pass.old)) }
     ensures pass { IsPassOf bank.now pass.new }
     ensures looks { (part : List Act) × AreLooks part × DidAll part pass.old pass.new }
     ensures next { (d : DictContent) → (known_state container (view pass.old)).content ≡ content.Dict d →
@@ -171,7 +171,7 @@ fn walk_set(bank: &Bank, pass: &mut Pass, container: u32, size: u64, last: Optio
     requires container { container < container_count (shape_of bank.now) }
     requires set { kind_in (shape_of bank.now).starts container ≡ kind.Set }
     requires locked { has_lock container (view pass.old).log ≡ true }
-    requires stands { Represents (shape_of bank.now).texts (held_words container (view pass.old)) (known_state container (view pass.old)) }
+    requires stands { Represents (shape_of bank.now).texts (held_unboxed container (view pass.old)) (known_state container (view pass.old)) }
     ensures pass { IsPassOf bank.now pass.new }
     ensures looks { (part : List Act) × AreLooks part × DidAll part pass.old pass.new }
     ensures next { (s : SetContent) → (known_state container (view pass.old)).content ≡ content.Set s →
@@ -216,7 +216,7 @@ pub(crate) fn next_set(
     requires container { container < container_count (shape_of bank.now) }
     requires set { kind_in (shape_of bank.now).starts container ≡ kind.Set }
     requires locked { has_lock container (view pass.old).log ≡ true }
-    requires stands { Represents (shape_of bank.now).texts (held_words container (view pass.old)) (known_state container (view pass.old)) }
+    requires stands { Represents (shape_of bank.now).texts (held_unboxed container (view pass.old)) (known_state container (view pass.old)) }
     ensures pass { IsPassOf bank.now pass.new }
     ensures looks { (part : List Act) × AreLooks part × DidAll part pass.old pass.new }
     ensures next { (s : SetContent) → (known_state container (view pass.old)).content ≡ content.Set s →
@@ -253,7 +253,7 @@ pub(crate) fn next_list(
     requires container { container < container_count (shape_of bank.now) }
     requires list { kind_in (shape_of bank.now).starts container ≡ kind.List }
     requires locked { has_lock container (view pass.old).log ≡ true }
-    requires stands { Represents (shape_of bank.now).texts (held_words container (view pass.old)) (known_state container (view pass.old)) }
+    requires stands { Represents (shape_of bank.now).texts (held_unboxed container (view pass.old)) (known_state container (view pass.old)) }
     ensures pass { IsPassOf bank.now pass.new }
     ensures looks { (part : List Act) × AreLooks part × DidAll part pass.old pass.new }
     ensures next { (items : List Value) → (known_state container (view pass.old)).content ≡ content.List items →

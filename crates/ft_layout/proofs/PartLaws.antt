@@ -246,7 +246,7 @@ module _ (bank : BankSizes) (word : ℕ) where
       let bits = bank.heap / 64 in
       elim (cases_lt word (start + bits)) [
         | inl bit ↦ (FreePlaces pass (word - start), record { is_part = (of, omega arith); from = omega arith; before = omega arith })
-        | inr box ↦ (Box pass ((word - start - bits) / 3), record { is_part = (of, omega arith); from = omega arith; before = omega arith })
+        | inr box ↦ (Box pass ((word - start - bits) / 4), record { is_part = (of, omega arith); from = omega arith; before = omega arith })
       ]
 
   heaps_word : block_start bank.containers ≤ word → word < heap_start bank.containers bank.heap bank.passes → Owner

@@ -36,16 +36,37 @@ free_word class word = 80 + 16 * (class - 3) + word
 abbrev pub block_start : ℕ → ℕ
 block_start container = 304 + 8 * container
 
--- the heap of a pass: a bit for each place, 64 in a word, and then three words for each place
+-- The words of a box, from its start on: the count that all passes share, the kind and the payload of the value in it,
+-- and the count that the pass which made it keeps for itself. (two counts: PEP 703, "Biased Reference Counting")
+abbrev pub shared_word : ℕ
+shared_word = 0
+
+abbrev pub kind_word : ℕ
+kind_word = 1
+
+abbrev pub payload_word : ℕ
+payload_word = 2
+
+abbrev pub local_word : ℕ
+local_word = 3
+
+abbrev pub box_size : ℕ
+box_size = 4
+
+-- the heap of a pass: a bit for each place, 64 in a word, and then a box for each place
 abbrev pub heap_size : ℕ → ℕ
-heap_size heap = heap / 64 + 3 * heap
+heap_size heap = heap / 64 + box_size * heap
 
 -- heaps lie after the blocks
 abbrev pub heap_start : ℕ → ℕ → ℕ → ℕ
 heap_start containers heap pass = block_start containers + pass * heap_size heap
 
+-- which places of a heap are free, a bit for each, 64 in a word
+abbrev pub free_place_word : ℕ → ℕ → ℕ → ℕ → ℕ
+free_place_word containers heap pass word = heap_start containers heap pass + word
+
 abbrev pub box_start : ℕ → ℕ → ℕ → ℕ → ℕ
-box_start containers heap pass place = heap_start containers heap pass + heap / 64 + 3 * place
+box_start containers heap pass place = heap_start containers heap pass + heap / 64 + box_size * place
 
 -- how many words the tables of all lower classes have
 unfoldable pub words_below : List ℕ → ℕ → ℕ
@@ -97,7 +118,7 @@ part_start bank (Announced pass) = announced_word pass
 part_start bank (FreeCount class) = free_count_word class
 part_start bank (FreeTables class word) = free_word class word
 part_start bank (Block container) = block_start container
-part_start bank (FreePlaces pass word) = heap_start bank.containers bank.heap pass + word
+part_start bank (FreePlaces pass word) = free_place_word bank.containers bank.heap pass word
 part_start bank (Box pass place) = box_start bank.containers bank.heap pass place
 part_start bank (Table class number) = table_start bank.containers bank.heap bank.passes bank.tables class number
 
@@ -109,7 +130,7 @@ part_size (FreeCount class) = 1
 part_size (FreeTables class word) = 1
 part_size (Block container) = 8
 part_size (FreePlaces pass word) = 1
-part_size (Box pass place) = 3
+part_size (Box pass place) = box_size
 part_size (Table class number) = table_size class
 
 -- the part has this word of the bank

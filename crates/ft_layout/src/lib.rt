@@ -10,7 +10,7 @@
 //!     66 .. 79    how many tables of each class are free
 //!     80 .. 303   which of them are free: sixteen words for each class, a bit for each table
 //!    304 ..       a block of eight words for each container
-//!     then        the heap of each pass: a bit for each place, then a box of three words for each
+//!     then        the heap of each pass: a bit for each place, then a box of four words for each
 //!     then        the tables, class by class
 //! ```
 //!
@@ -22,6 +22,7 @@
 //! table   0 | goal | index words .. | entries ..      or      0 | goal | items ..
 //! entry   version | hash | key kind | key | value kind | value | serial | 0
 //! item    version | value kind | value | 0
+//! box     shared count | value kind | value | local count
 //! ```
 //!
 //! An index word is 0 where its slot was never used, or the place of an entry plus 1.
@@ -66,8 +67,8 @@ pub use size::{entry_at, index_at, item_at, table_size};
 pub use slot::{Pair, Ref, Slot, Stored};
 pub use start::{
     COUNTER, WRITE_NUMBER, announced_word, bank_size, block_start, box_start, free_count_word,
-    free_word, heap_start, table_start,
+    free_place_word, free_word, heap_start, table_start,
 };
-pub use stored::{stored_kind_of, stored_payload_of};
+pub use stored::{stored_kind_of, stored_payload_of, value_of};
 pub use take::{Take, read_entry, read_item};
 pub use word::{block_word, entry_word, item_word, table_word};

@@ -1,11 +1,11 @@
 //! Where in a bank each of its parts begins, for the bank that makes the list of words and for all who
 //! read or write it. The parts lie one after the other, without a gap.
 
-ghost use Rattle.std.specs.Prelude.{◌≡◌, ◌+◌, ◌^◌, ◌<◌, ◌≤◌};
+ghost use Rattle.std.specs.Prelude.{◌≡◌, ◌+◌, ◌/◌, ◌^◌, ◌<◌, ◌≤◌};
 ghost use Rattle.ft_layout.specs.Sizes.{table_size};
 ghost use Rattle.ft_model.specs.Classes.{IsClass};
 ghost use Rattle.ft_layout.specs.Words.{IsHolder};
-ghost use Rattle.ft_layout.specs.Starts.{IsHeap, AreTables, tables_of_class, announced_word, free_count_word, free_word, block_start, heap_start, box_start, table_start, bank_size};
+ghost use Rattle.ft_layout.specs.Starts.{IsHeap, AreTables, tables_of_class, announced_word, free_count_word, free_word, block_start, heap_start, free_place_word, box_start, table_start, bank_size};
 
 use crate::limit::{CONTAINERS, PASSES};
 use crate::size::table_size;
@@ -28,8 +28,8 @@ const FREE_WORDS: u64 = 16;
 const BLOCKS: u64 = 304;
 /// How many words a block has.
 const BLOCK: u64 = 8;
-/// How many words a box has.
-const BOX: u64 = 3;
+/// How many words a box has: the shared count, the kind and the payload of its value, the local count.
+const BOX: u64 = 4;
 /// How many places one word of bits tells of.
 const BITS: u64 = 64;
 
@@ -73,10 +73,21 @@ pub fn heap_start(containers: u32, heap: u32, pass: u32) -> u64
     requires heap { IsHeap heap }
     requires pass { pass ≤ PASSES }
     ensures is { result ≡ heap_start containers heap pass }
-    ensures most { result < 800000 }
+    ensures most { result < 1060000 }
 {
     let heap = u64::from(heap);
     block_start(containers) + u64::from(pass) * (heap / BITS + BOX * heap)
+}
+
+/// A word that says which places of a pass's heap are free: bit b of word w is 1 where place 64w + b is.
+pub fn free_place_word(containers: u32, heap: u32, pass: u32, word: u32) -> u64
+    requires containers { containers ≤ CONTAINERS }
+    requires heap { IsHeap heap }
+    requires pass { IsHolder pass }
+    requires word { word < heap / 64 }
+    ensures { result ≡ free_place_word containers heap pass word }
+{
+    heap_start(containers, heap, pass) + u64::from(word)
 }
 
 /// Where a box of a pass begins.

@@ -2,7 +2,9 @@
 //! one kind and one payload, and no other two words stand for any of them.
 
 ghost use Rattle.std.specs.Prelude.{◌≡◌, ◌↔◌, ℕ, Some};
+ghost use Rattle.ft_layout.specs.declared.slot.Stored.TheVariants.{Plain};
 ghost use Rattle.ft_layout.specs.Words.{stored_kind, stored_payload, FitsStored, IsStored};
+ghost use Rattle.ft_model.specs.declared.data.Value.{Value};
 
 use crate::key::string_of;
 use crate::limit::{PASSES, PLACES};
@@ -72,4 +74,27 @@ fn boxed_of(payload: u64) -> Option<Stored>
     let pass = u32::try_from(payload / PASS_STEP).ok()?;
     let place = (payload % PASS_STEP) as u32;
     (pass < PASSES && place < PLACES).then_some(Stored::Boxed(Ref { pass, place }))
+}
+
+/// The value that is stored in place, if one is.
+#[inline(always)]
+fn plain_of(stored: Stored) -> Option<Value>
+    ensures { (value : Value) → (stored ≡ Plain value) ↔ (result ≡ Some value) }
+{
+    match stored {
+        Stored::Plain(value) => Some(value),
+        Stored::Empty | Stored::Boxed(_) => None,
+    }
+}
+
+/// The value that a kind and a payload stand for; `None` where they stand for a box, for nothing, or for nothing that
+/// can be stored.
+#[inline(always)]
+pub fn value_of(kind: u64, payload: u64) -> Option<Value>
+    ensures { (value : Value) → IsStored kind payload (Plain value) ↔ (result ≡ Some value) }
+{
+    match stored_of(kind, payload) {
+        Some(stored) => plain_of(stored),
+        None => None,
+    }
 }

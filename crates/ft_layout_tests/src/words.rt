@@ -4,14 +4,14 @@
 use ft_layout::{
     Pair, Ref, Slot, Stored, Take, announced_word, bank_size, bank_words_are_of_one_part,
     block_start, box_start, changed_words_are_of_a_list, changed_words_are_of_a_table,
-    dict_words_are_of_one_dict, entry_at, entry_of, entry_words, free_count_word, free_word,
-    gone_kind_of, heap_start, index_at, item_at, item_of, item_words, items_are_moved_one_by_one,
-    kind_of, list_words_are_of_one_list, lock_of, lock_word, payload_of, puts_change_one_entry,
-    puts_change_one_item, read_entry, read_item, root_of, root_word, set_words_are_of_one_set,
-    sizes_are_by_class, stored_kind_of, stored_payload_of, table_size, table_start,
-    table_words_are_of_one_field, used_entries_follow_a_dict, used_entries_follow_a_set,
-    versions_change_nothing, words_are_of_one_content, words_follow_a_dict, words_follow_a_list,
-    words_follow_a_set, words_have_their_numbers,
+    dict_words_are_of_one_dict, entry_at, entry_of, entry_words, free_count_word, free_place_word,
+    free_word, gone_kind_of, heap_start, index_at, item_at, item_of, item_words,
+    items_are_moved_one_by_one, kind_of, list_words_are_of_one_list, lock_of, lock_word,
+    payload_of, puts_change_one_entry, puts_change_one_item, read_entry, read_item, root_of,
+    root_word, set_words_are_of_one_set, sizes_are_by_class, stored_kind_of, stored_payload_of,
+    table_size, table_start, table_words_are_of_one_field, used_entries_follow_a_dict,
+    used_entries_follow_a_set, versions_change_nothing, words_are_of_one_content,
+    words_follow_a_dict, words_follow_a_list, words_follow_a_set, words_have_their_numbers,
 };
 use ft_model::{Key, Sym, Value};
 use std::process::Abort;
@@ -72,8 +72,8 @@ fn fields_lie_after_each_other(rt: HostRuntime) -> Result<(), Fail> {
     Ok(())
 }
 
-// Two containers, and two passes with 64 places each: one word of bits and 192 of boxes.
-const STARTS: [(&str, u64); 13] = [
+// Two containers, and two passes with 64 places each: one word of bits and 256 of boxes.
+const STARTS: [(&str, u64); 15] = [
     ("announced_word(0)", 2),
     ("announced_word(63)", 65),
     ("free_count_word(3)", 66),
@@ -84,9 +84,11 @@ const STARTS: [(&str, u64); 13] = [
     ("block_start(1)", 312),
     ("heap_start(2, 64, 0)", 320),
     ("box_start(2, 64, 0, 0)", 321),
-    ("box_start(2, 64, 0, 63)", 510),
-    ("heap_start(2, 64, 1)", 513),
-    ("box_start(2, 64, 1, 0)", 514),
+    ("box_start(2, 64, 0, 63)", 573),
+    ("heap_start(2, 64, 1)", 577),
+    ("box_start(2, 64, 1, 0)", 578),
+    ("free_place_word(2, 128, 0, 1)", 321),
+    ("free_place_word(2, 128, 1, 0)", 834),
 ];
 
 #[test]
@@ -105,6 +107,8 @@ fn parts_of_a_small_bank_begin_where_the_last_ended(rt: HostRuntime) -> Result<(
         box_start(2, 64, 0, 63),
         heap_start(2, 64, 1),
         box_start(2, 64, 1, 0),
+        free_place_word(2, 128, 0, 1),
+        free_place_word(2, 128, 1, 0),
     ];
     check_each(&rt, &found, &STARTS);
     Ok(())
@@ -112,12 +116,12 @@ fn parts_of_a_small_bank_begin_where_the_last_ended(rt: HostRuntime) -> Result<(
 
 // The tables of the same bank: two of class 3, and one of each greater class.
 const TABLE_STARTS: [(&str, u64); 6] = [
-    ("table_start(2, 64, 2, &tables, 3, 0)", 706),
-    ("table_start(2, 64, 2, &tables, 3, 1)", 756),
-    ("table_start(2, 64, 2, &tables, 4, 0)", 806),
-    ("table_start(2, 64, 2, &tables, 5, 0)", 904),
-    ("table_start(2, 64, 2, &tables, 16, 0)", 415742),
-    ("bank_size(2, 64, 2, &tables)", 830800),
+    ("table_start(2, 64, 2, &tables, 3, 0)", 834),
+    ("table_start(2, 64, 2, &tables, 3, 1)", 884),
+    ("table_start(2, 64, 2, &tables, 4, 0)", 934),
+    ("table_start(2, 64, 2, &tables, 5, 0)", 1032),
+    ("table_start(2, 64, 2, &tables, 16, 0)", 415870),
+    ("bank_size(2, 64, 2, &tables)", 830928),
 ];
 
 #[test]

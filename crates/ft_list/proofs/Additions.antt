@@ -40,6 +40,7 @@ use Rattle.ft_list.proofs.LookRounds.{slots_are}
 use Rattle.ft_list.proofs.Wanted.{list_use, wanted_some}
 use Rattle.ft_list.proofs.WholeListWrites.{grows_from}
 use Rattle.ft_search.proofs.Changing.{no_keys}
+use Rattle.ft_search.proofs.Puts.{done_then}
 
 module _ (k : Shape) (o : ℕ) (old : Option Table) (v : View) (list : KnowsList k o old v) (shape : v.shape ≡ k) (possible : ∥ IsReachable v ∥₁) (lc : ListCall) (total : ℕ) (news : List Value) (adds : Adds o lc (known_items o v) news v) (long : length news ≡ total) where
   abbrev values : List Value
@@ -131,11 +132,11 @@ module _ (F : ℕ → Type 0) (v u : View) (same : SamePass v u) (keeps : KeepsB
   pub tried_knows : (k : Shape) (o : ℕ) (old : Option Table) → v.shape ≡ k → KnowsList k o old v → KnowsList k o old u
   tried_knows k o old shape list =
       let w = keeps.held.words o (subst (λ (z : Shape). o < container_count z) (sym shape) list.container) list.locked in
-      knows_on k o old v u w.0 w.1 (same.locks o) (same.writes o) list
+      knows_on k o old v u w.2 w.1 (same.locks o) (same.writes o) list
 
   pub tried_addition : (k : Shape) (count : ℕ) (addition : Addition) → v.shape ≡ k → IsAddition k count addition v → IsAddition k count addition u
   tried_addition k count addition shape is = addition_on k count addition v u
-      (λ p list. let w = keeps.held.words p (subst (λ (z : Shape). p < container_count z) (sym shape) list.container) list.locked in (w.0, w.1, same.locks p, same.writes p)) is
+      (λ p list. let w = keeps.held.words p (subst (λ (z : Shape). p < container_count z) (sym shape) list.container) list.locked in (w.2, w.1, same.locks p, same.writes p)) is
 
   pub tried_news : (k : Shape) (count : ℕ) (addition : Addition) → v.shape ≡ k → IsAddition k count addition v → (values : List Value) → with_added addition u values ≡ with_added addition v values
   tried_news k count addition shape is values = news_on k count addition v u (λ p list. (keeps.held.words p (subst (λ (z : Shape). p < container_count z) (sym shape) list.container) list.locked).1) is values
@@ -152,6 +153,7 @@ module _ (F : ℕ → Type 0) (v u : View) (same : SamePass v u) (keeps : KeepsB
     owed = owed ∙ ap suc (sym (class_is table table_in.2 ∙ of_class));
     fresh = fresh;
     table_in = table_in;
+    boxes = done_then k v u shape same.shape keeps.boxes.references keeps.boxes.made may.boxes;
     left = subst (λ (n : ℕ). 0 < n) (sym keeps.held.left) may.left;
   }
 

@@ -1,5 +1,5 @@
 -- From what a look-up of an item shows to what a call may answer.
-use Rattle.std.proofs.Common.{◌≡◌, ℕ, ◌<◌, List, ◌∷◌, ◌++◌, Option, Some, None, sym, ap, ◌∙◌, subst, append_assoc}
+use Rattle.std.proofs.Common.{◌≡◌, ℕ, ◌<◌, List, ◌∷◌, ◌++◌, Option, Some, None, sym, ap, ◌∙◌, subst, append_assoc, inl}
 use Rattle.std.specs.Prelude.{pos, ◌⊎◌}
 use Rattle.ft_model.specs.declared.call.Call.TheVariants as call
 use Rattle.ft_model.specs.declared.call.ListCall.TheVariants as list
@@ -45,10 +45,10 @@ module _ (v w : View) (k : Shape) (o index n : ℕ) (part : List Act) (loaded : 
 
   module _ (kind payload : ℕ) (shows : ShowsItem o index kind payload n w.log) where
     pub item_here : (value : Value) → IsStored kind payload (Plain value) → IsShown w (call.List o (list.Get (pos index))) (item_reply (Some value)) n
-    item_here value stored = (items_are_shown w o shows.t index n may_ask here shows.low shows.hit kind payload shows.read).0 value stored
+    item_here value stored = (items_are_shown w o shows.t index n may_ask here shows.low shows.hit kind payload (inl shows.read)).0 value stored
 
     pub item_none : IsStored kind payload Empty → IsShown w (call.List o (list.Get (pos index))) (item_reply None) n
-    item_none stored = (items_are_shown w o shows.t index n may_ask here shows.low shows.hit kind payload shows.read).1 stored
+    item_none stored = (items_are_shown w o shows.t index n may_ask here shows.low shows.hit kind payload (inl shows.read)).1 stored
 
     pub found_shown : (result : Option (Option Value)) → ((value : Value) → result ≡ Some (Some value) → IsStored kind payload (Plain value)) → (result ≡ Some None → IsStored kind payload Empty) → (found : Option Value) → result ≡ Some found → IsShown w (call.List o (list.Get (pos index))) (item_reply found) n
     found_shown result plain none (Some value) is = item_here value (plain value is)
@@ -56,7 +56,7 @@ module _ (v w : View) (k : Shape) (o index n : ℕ) (part : List Act) (loaded : 
 
     -- the words that were read are those of a value, or of nothing
     pub item_either : IsReachable w → ((value : Value) × IsStored kind payload (Plain value)) ⊎ IsStored kind payload Empty
-    item_either possible = items_are_read w o shows.t index n possible may_ask.low here shows.low shows.hit kind payload shows.read
+    item_either possible = items_are_read w o shows.t index n possible may_ask.low here shows.low shows.hit kind payload (inl shows.read)
 
 pub contended_after : (v w : View) (o index a b : ℕ) (part : List Act) → OnlyLoaded v w → AreLooks part → w.log ≡ part ++ v.log → StopsItemLook o index a b part → IsItemContended o index a b v w
 contended_after v w o index a b part loaded looks own stops = record { loaded = loaded; part = part; looks = looks; own = own; stops = stops }

@@ -10,7 +10,7 @@ use Rattle.ft_model.specs.declared.data.Value.TheVariants.{Nothing}
 use Rattle.ft_model.specs.Worlds.{kind_of, list_of}
 use Rattle.ft_trace.specs.declared.Shape.{Shape}
 use Rattle.ft_trace.specs.Addresses.{container_count}
-use Rattle.ft_trace.specs.Holds.{held_words, known_state}
+use Rattle.ft_trace.specs.Holds.{known_state}
 use Rattle.ft_bank.specs.declared.pass.Pass.{Pass}
 use Rattle.ft_bank.specs.Passes.{view}
 use Rattle.ft_search.proofs.Lengths.{IsPlain}
@@ -26,6 +26,7 @@ use Rattle.ft_list.proofs.Lists.{content_of}
 use Rattle.ft_list.proofs.Indexes.{items_counted}
 use Rattle.ft_list.proofs.ValueLists.{AlikeBefore}
 use Rattle.ft_reads.proofs.Both.{of_first, of_second, both_map, both_then}
+use Rattle.ft_list.proofs.ValueReads.{held_shows_both}
 
 module _ (k : Shape) (o m : ℕ) where
   -- how many items each has
@@ -56,7 +57,7 @@ AlikeYet count place xs ys = (count ≡ length xs) × (count ≡ length ys) × A
 module _ (k : Shape) (o m : ℕ) (holds : List Value → List Value → Type 0) (p q : Pass) (r : ReadsBoth k o m (AreOfItems k holds) p q) (shape : (view p).shape ≡ k) (may : MayWriteList k o (view p)) (other : MayWriteList k m (view p)) where
   -- it holds of the items that the pass knows
   pub both_hold : holds (known_items o (view p)) (known_items m (view p))
-  both_hold = r.3 (held_words o (view p)) (held_words m (view p)) (r.4 o may.container may.locked) (r.4 m other.container other.locked) (known_state o (view p)) (known_state m (view p))
+  both_hold = held_shows_both k o m (AreOfItems k holds) p q r shape may.container may.locked other.container other.locked (known_state o (view p)) (known_state m (view p))
       (ap kind_of (content_of k o (view p) shape p.possible may)) (ap kind_of (content_of k m (view p) shape p.possible other)) may.stands other.stands
 
   pub eq_replied : (alike : Bool) → alike ≡ same_items (known_items o (view p)) (known_items m (view p)) → IsReplyTo (call.List o (list.Eq m)) (reply.Truth alike) (view p)

@@ -27,7 +27,7 @@ use Rattle.ft_trace.specs.ContainerStates.{ContainerState, state_at, kind_in, ch
 use Rattle.ft_trace.specs.Pictures.{root_in}
 use Rattle.ft_trace.specs.ItemWords.{ItemClear}
 use Rattle.ft_trace.specs.Kinds.{ClearAs}
-use Rattle.ft_trace.specs.Holds.{held_words, known_state}
+use Rattle.ft_trace.specs.Holds.{held_unboxed, known_state}
 use Rattle.ft_trace.proofs.Known.{declared_at}
 use Rattle.ft_bank.specs.declared.table.Table.{Table}
 use Rattle.ft_bank.specs.TableNames.{table_id}
@@ -67,8 +67,8 @@ module _ (o : ℕ) (lc : ListCall) (said : Reply) (values news : List Value) (v 
 module _ (k : Shape) (o : ℕ) (table : Table) (first past : ℕ) (lc : ListCall) (said : Reply) (values news : List Value) (v : View) (list : WritesList k o table v) (shape : v.shape ≡ k) (is_list : (known_state o v).content ≡ content.List values) (call_is : IsListWrite o lc said values news v)
     (table_after : (stored : StoredWorld) → MayHave v stored → table_at (after_stored stored (call.List o lc)).tables o ≡ record { class = Some (class_of (table_id table)); fill = 0; keys = [] })
     (takes_owed : (stored : StoredWorld) (c : ℕ) → MayHave v stored → owes v.log ≡ suc c → takes_in stored (call.List o lc) ≡ Some c)
-    (changed_by : Changed (class_of (table_id table)) values news first past (held_words o v).table) where
-  changing : IsChanging (class_of (table_id table)) values news first past (held_words o v).table
+    (changed_by : Changed (class_of (table_id table)) values news first past (held_unboxed o v).table) where
+  changing : IsChanging (class_of (table_id table)) values news first past (held_unboxed o v).table
   changing = changed_by.0
 
   abbrev called : Call
@@ -96,14 +96,14 @@ module _ (k : Shape) (o : ℕ) (table : Table) (first past : ℕ) (lc : ListCall
   unfolding slots
   few = let f = changing.table.fill in let r = (slots_range class (table_class k table list.table_in)).0 in omega (arith, f, r)
 
-  clear : ItemClear (slots class) (held_words o v).table values news
+  clear : ItemClear (slots class) (held_unboxed o v).table values news
   clear = record { keeps = changing.shut; opens = changed_by.1; short = few }
 
-  clears : (stored : StoredWorld) (t : ℕ) → MayHave v stored → root_in (held_words o v) ≡ suc t → ClearAs (kind_in v.shape.starts o) v.shape.texts (class_of t) (held_words o v).table (known_state o v).content (state_at (after_stored stored called) o).content
+  clears : (stored : StoredWorld) (t : ℕ) → MayHave v stored → root_in (held_unboxed o v) ≡ suc t → ClearAs (kind_in v.shape.starts o) v.shape.texts (class_of t) (held_unboxed o v).table (known_state o v).content (state_at (after_stored stored called) o).content
   clears stored t has names =
       let same : table_id table ≡ t = let e : suc (table_id table) ≡ suc t = sym list.root ∙ names in omega (arith, e) in
-      subst (λ (n : ℕ). ClearAs (kind_in v.shape.starts o) v.shape.texts (class_of n) (held_words o v).table (known_state o v).content (state_at (after_stored stored called) o).content) same
-      (subst (λ (z : Kind × Content × Content). ClearAs z.0 v.shape.texts class (held_words o v).table z.1 z.2) (λ d. (is_kind d, sym is_list d, sym (ap (λ (z : ContainerState). z.content) (left_after stored has)) d)) clear)
+      subst (λ (n : ℕ). ClearAs (kind_in v.shape.starts o) v.shape.texts (class_of n) (held_unboxed o v).table (known_state o v).content (state_at (after_stored stored called) o).content) same
+      (subst (λ (z : Kind × Content × Content). ClearAs z.0 v.shape.texts class (held_unboxed o v).table z.1 z.2) (λ d. (is_kind d, sym is_list d, sym (ap (λ (z : ContainerState). z.content) (left_after stored has)) d)) clear)
 
   declared : (stored : StoredWorld) → MayHave v stored → IsDeclared stored.world no_hands called
   declared stored has = record {
@@ -112,7 +112,7 @@ module _ (k : Shape) (o : ℕ) (table : Table) (first past : ℕ) (lc : ListCall
     room = subst (λ (z : Option ℕ). IfSome z (λ (n : ℕ). n < 0)) (sym call_is.cursor) tt;
   }
 
-  pub may_finish : 0 < v.left → has_emptied o v.log ≡ false → IsBlock (held_words o v).block (Some class) (length news) 0 0 → MayFinishItems o table called said first past v
+  pub may_finish : 0 < v.left → has_emptied o v.log ≡ false → IsBlock (held_unboxed o v).block (Some class) (length news) 0 0 → MayFinishItems o table called said first past v
   may_finish left full head = record {
     may = record {
       write = (λ d. call_is.changing d && not (call_is.raises d));
@@ -124,7 +124,7 @@ module _ (k : Shape) (o : ℕ) (table : Table) (first past : ℕ) (lc : ListCall
       reply_is = λ stored has. inr (sym (ap (λ (z : Answer). z.reply) (answer_is o lc said values news v low' list.locked is_list stored has (call_is.answered stored has))));
       declared = declared;
       fits = call_is.caps;
-      clear = subst (λ (n : ℕ). (stored : StoredWorld) (t : ℕ) → MayHave v stored → root_in (held_words n v) ≡ suc t → ClearAs (kind_in v.shape.starts n) v.shape.texts (class_of t) (held_words n v).table (known_state n v).content (state_at (after_stored stored called) n).content) (sym changed) clears;
+      clear = subst (λ (n : ℕ). (stored : StoredWorld) (t : ℕ) → MayHave v stored → root_in (held_unboxed n v) ≡ suc t → ClearAs (kind_in v.shape.starts n) v.shape.texts (class_of t) (held_unboxed n v).table (known_state n v).content (state_at (after_stored stored called) n).content) (sym changed) clears;
       takes = takes_owed;
       empties = λ e. absurd (true≢false (sym e ∙ subst (λ (n : ℕ). has_emptied n v.log ≡ false) (sym changed) full));
     };

@@ -9,13 +9,13 @@ use Rattle.ft_model.specs.declared.data.Value.{Value}
 use Rattle.ft_model.specs.declared.reply.Reply.TheVariants as reply
 use Rattle.ft_model.specs.TableUses.{no_table}
 use Rattle.ft_layout.specs.Containers.{IsRoot, IsBlock}
-use Rattle.ft_trace.specs.declared.Act.TheVariants.{Commit, PutBlock, PutRoot, StartWrite, StopWrite}
+use Rattle.ft_trace.specs.declared.Act.TheVariants.{Commit, PutBlock, StartWrite, StopWrite}
 use Rattle.ft_trace.specs.declared.Snap.{Snap}
 use Rattle.ft_trace.specs.declared.Shape.{Shape}
 use Rattle.ft_trace.specs.declared.View.{View}
 use Rattle.ft_trace.specs.Acts.{has_lock, is_writing, owes, view_after, seen_writes, used}
 use Rattle.ft_trace.specs.Addresses.{container_count}
-use Rattle.ft_trace.specs.Holds.{held_words, known_state}
+use Rattle.ft_trace.specs.Holds.{held_unboxed, known_state, held_words}
 use Rattle.ft_trace.specs.Traces.{IsReachable}
 use Rattle.ft_trace.specs.Pictures.{ContainerWords, root_in, Represents}
 use Rattle.ft_trace.specs.ContainerStates.{ContainerState}
@@ -23,18 +23,19 @@ use Rattle.ft_trace.proofs.Cases.{hit}
 use Rattle.ft_trace.proofs.Known.{declared_at}
 use Rattle.ft_trace.proofs.Naming.{named_locked}
 use Rattle.ft_bank.specs.declared.table.Table.{Table}
-use Rattle.ft_bank.specs.Whole.{OnlyPut, Wrote}
-use Rattle.ft_bank.specs.WriteSteps.{Committed, IsShut, KeepsUnwritten, MayCommit, MayPutRoot, with_block, with_root}
-use Rattle.ft_bank.proofs.KnownAfterWrites.{put_by, put_same, work_knows, write_ends}
+use Rattle.ft_bank.specs.Whole.{OnlyWritten, Wrote}
+use Rattle.ft_bank.specs.WriteSteps.{Committed, IsShut, KeepsUnwritten, MayCommit, MayPutRoot, with_block, with_unboxed_root}
+use Rattle.ft_bank.proofs.KnownAfterWrites.{put_by, put_same, work_knows, write_ends, written_then, put_written}
 use Rattle.ft_table_calls.proofs.Rooting.{rooted_write}
 use Rattle.ft_search.specs.OneEntryWrites.{Leaves}
 use Rattle.ft_list.specs.ListItemWrites.{known_items}
-use Rattle.ft_list.specs.Internal.NewListTables.{KnowsList, MayAdd}
+use Rattle.ft_list.specs.Internal.NewListTables.{KnowsList, MayAdd, HasRooted}
 use Rattle.ft_list.proofs.Commits.{content_after, in_tables, in_world, list_there}
 use Rattle.ft_list.proofs.Extending.{none_alike}
 use Rattle.ft_list.proofs.GrownLists.{knows_content, knows_shut, list_bare, list_head}
 use Rattle.ft_list.proofs.Wanted.{list_use}
 use Rattle.ft_search.proofs.Changing.{no_keys}
+use Rattle.ft_bank.specs.SameBoxes.{HoldsFew, MovesReferences}
 
 -- the call
 abbrev pub clear_of : ℕ → Call
@@ -46,7 +47,7 @@ empty_kept = record { content = content.List []; table = no_table }
 
 module _ (o : ℕ) (values : List Value) (u : View) (low : o < container_count u.shape) (mine : has_lock o u.log ≡ true) (is_list : (known_state o u).content ≡ content.List values) where
   -- a pass that writes a list whose root names no table may commit it
-  pub may_clear : is_writing o u.log ≡ true → 0 < u.left → owes u.log ≡ 0 → root_in (held_words o u) ≡ 0 → MayCommit u (clear_of o) reply.Done
+  pub may_clear : is_writing o u.log ≡ true → 0 < u.left → owes u.log ≡ 0 → root_in (held_unboxed o u) ≡ 0 → MayCommit u (clear_of o) reply.Done
   may_clear odd left none bare = record {
     write = refl;
     container = low;
@@ -100,8 +101,8 @@ with_no_root b class count h =
     }
 
 -- its root may become 0
-pub may_put_none : (k : Shape) (o : ℕ) (old : Option Table) (v : View) (f : ℕ) → v.shape ≡ k → ∥ IsReachable v ∥₁ → KnowsList k o old v → used v.log ≡ false → MayPutRoot (view_after (StartWrite o f) v) o None
-may_put_none k o old v f shape possible list free = record {
+pub may_put_none : (k : Shape) (o : ℕ) (old : Option Table) (v : View) (f : ℕ) → v.shape ≡ k → ∥ IsReachable v ∥₁ → KnowsList k o old v → used v.log ≡ false → HoldsFew v → MayPutRoot (view_after (StartWrite o f) v) o None
+may_put_none k o old v f shape possible list free few = record {
   odd = hit o true (is_writing o v.log);
   fresh = λ t e. absurd (true≢false (ap is_some (sym e)));
   sound = λ t e. absurd (true≢false (ap is_some (sym e)));
@@ -109,60 +110,57 @@ may_put_none k o old v f shape possible list free = record {
   shut = knows_shut k o old v shape possible list;
   spare = λ some_one. free;
   early = λ e. hit o false _;
+  references = record { few = few; enough = λ b. omega arith; known = λ b old_none some_. absurd (some_ refl) };
 }
 
 -- ---- the whole write of a list that has a table
 
-module _ (k : Shape) (o : ℕ) (table : Table) (v s r u : View) (f : ℕ) (may : MayAdd k o (Some table) v) (shape : v.shape ≡ k) (possible : ∥ IsReachable v ∥₁) (started : s ≡ view_after (StartWrite o f) v) (rooted : r ≡ view_after (PutRoot o 0 (root_in (held_words o s))) s) (root_held : held_words o r ≡ with_root (held_words o s) None s) (keeps : KeepsUnwritten s r) (counted : u ≡ view_after (PutBlock o 1 0) r) (count_held : held_words o u ≡ with_block (held_words o r) 1 0) (keeps_too : KeepsUnwritten r u) where
-  both_rooted : r ≡ view_after (PutRoot o 0 (root_in (held_words o v))) (view_after (StartWrite o f) v)
-  both_rooted = rooted ∙ ap (λ (z : View). view_after (PutRoot o 0 (root_in (held_words o z))) z) started
-
-  puts : OnlyPut o r u
-  puts = put_by (PutBlock o 1 0) r u o tt counted keeps_too
+module _ (k : Shape) (o : ℕ) (table : Table) (v s u : View) (may : MayAdd k o (Some table) v) (shape : v.shape ≡ k) (possible : ∥ IsReachable v ∥₁) (h : HasRooted o 0 v s) (root_held : held_unboxed o s ≡ with_unboxed_root (held_unboxed o v) o None v) (counted : u ≡ view_after (PutBlock o 1 0) s) (count_held : held_unboxed o u ≡ with_block (held_unboxed o s) 1 0) (keeps : KeepsUnwritten s u) (moves : MovesReferences o s u) where
+  puts : OnlyWritten o h.rooted u
+  puts = written_then o h.rooted s u h.only (put_written o s u (put_by (PutBlock o 1 0) s u o tt counted keeps moves))
 
   known_then : (p : ℕ) → known_state p u ≡ known_state p v
-  known_then p = work_knows r u p puts.work ∙ ap (λ (z : View). known_state p z) both_rooted
+  known_then p = work_knows h.rooted u p puts.work ∙ ap (λ (z : View). known_state p z) h.did
 
   is_list : (known_state o v).content ≡ content.List (known_items o v)
   is_list = knows_content k o (Some table) v shape possible may.list
 
   low_then : o < container_count u.shape
-  low_then = subst (λ (z : Shape). o < container_count z) (sym (puts.work.pass.shape ∙ (ap (λ (z : View). z.shape) both_rooted ∙ shape))) may.list.container
+  low_then = subst (λ (z : Shape). o < container_count z) (sym (puts.work.pass.shape ∙ (ap (λ (z : View). z.shape) h.did ∙ shape))) may.list.container
 
   mine_then : has_lock o u.log ≡ true
-  mine_then = puts.work.pass.locks o ∙ (ap (λ (z : View). has_lock o z.log) both_rooted ∙ may.list.locked)
+  mine_then = puts.work.pass.locks o ∙ (ap (λ (z : View). has_lock o z.log) h.did ∙ may.list.locked)
 
   list_then : (known_state o u).content ≡ content.List (known_items o v)
   list_then = ap (λ (z : ContainerState). z.content) (known_then o) ∙ is_list
 
   -- its block
-  head_then : IsBlock (held_words o u).block None 0 0 0
+  head_then : IsBlock (held_unboxed o u).block None 0 0 0
   head_then =
       subst (λ (x : ContainerWords). IsBlock x.block None 0 0 0) (sym (count_held ∙ ap (λ (x : ContainerWords). with_block x 1 0) root_held))
-      (subst (λ (z : View). IsBlock (with_block (with_root (held_words o z) None z) 1 0).block None 0 0 0) (sym started)
-      (with_no_root (held_words o v).block (known_state o v).table.class (length (known_items o v)) (list_head k.texts v o is_list may.list.stands)))
+      (with_no_root (held_unboxed o v).block (known_state o v).table.class (length (known_items o v)) (list_head k.texts v o is_list may.list.stands))
 
-  pub root_then : root_in (held_words o u) ≡ 0
+  pub root_then : root_in (held_unboxed o u) ≡ 0
   root_then = head_then.root
 
   pub clear_may_commit : MayCommit u (clear_of o) reply.Done
   clear_may_commit =
       may_clear o (known_items o v) u low_then mine_then list_then
-      (puts.work.pass.writes o ∙ (ap (λ (z : View). is_writing o z.log) both_rooted ∙ hit o true (is_writing o v.log)))
-      (subst (λ (n : ℕ). 0 < n) (sym (puts.work.left ∙ ap (λ (z : View). z.left) both_rooted)) may.left)
-      (puts.work.owes ∙ (ap (λ (z : View). owes z.log) both_rooted ∙ may.owes))
+      (puts.work.pass.writes o ∙ (ap (λ (z : View). is_writing o z.log) h.did ∙ hit o true (is_writing o v.log)))
+      (subst (λ (n : ℕ). 0 < n) (sym (puts.work.left ∙ ap (λ (z : View). z.left) h.did)) may.left)
+      (puts.work.owes ∙ (ap (λ (z : View). owes z.log) h.did ∙ may.owes))
       root_then
 
   -- after the commit
   module _ (number g : ℕ) (snap : Snap) (c w : View) (made : c ≡ view_after (Commit (clear_of o) reply.Done number snap) u) (committed : Committed u c (clear_of o)) where
-    held_on : held_words o c ≡ held_words o u
-    held_on = ap (λ (z : View). held_words o z) made
+    held_on : held_unboxed o c ≡ held_unboxed o u
+    held_on = ap (λ (z : View). held_unboxed o z) made
 
-    pub clear_stands : (texts : List ℕ) → Represents texts (held_words o c) (known_state o c)
+    pub clear_stands : (texts : List ℕ) → Represents texts (held_unboxed o c) (known_state o c)
     clear_stands texts =
-        bare_stands texts (held_words o c) (known_state o c) (clear_kept o (known_items o v) u low_then mine_then list_then c committed) (subst (λ (x : ContainerWords). IsBlock x.block None 0 0 0) (sym held_on) head_then)
+        bare_stands texts (held_unboxed o c) (known_state o c) (clear_kept o (known_items o v) u low_then mine_then list_then c committed) (subst (λ (x : ContainerWords). IsBlock x.block None 0 0 0) (sym held_on) head_then)
 
-    pub clear_root : root_in (held_words o c) ≡ 0
+    pub clear_root : root_in (held_unboxed o c) ≡ 0
     clear_root = ap root_in held_on ∙ root_then
 
     pub clear_shut : IsShut o c
@@ -171,7 +169,7 @@ module _ (k : Shape) (o : ℕ) (table : Table) (v s r u : View) (f : ℕ) (may :
     pub clear_wrote : seen_writes u ≤ number → w ≡ view_after (StopWrite o g) c → Wrote (clear_of o) reply.Done number v w
     clear_wrote seen stopped =
         let some_old : root_in (held_words o v) ≢ 0 = λ e. let n = may.list.root in omega (arith, e, n) in
-        rooted_write (clear_of o) reply.Done number f 0 v r u w both_rooted may.list.even some_old (subst (λ (z : View). KeepsUnwritten z r) started keeps) puts root_then
+        rooted_write (clear_of o) reply.Done number h.start 0 v h.rooted u w h.did may.list.even some_old h.keeps h.moves puts root_then
         (write_ends (clear_of o) reply.Done number g snap u c c w seen made committed clear_may_commit.left (put_same c o) (ap root_in held_on) (clear_stands u.shape.texts) stopped)
 
 -- ---- a list that has none is as it was

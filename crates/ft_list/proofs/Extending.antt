@@ -18,15 +18,15 @@ use Rattle.ft_trace.specs.declared.Shape.{Shape}
 use Rattle.ft_trace.specs.declared.View.{View}
 use Rattle.ft_trace.specs.Acts.{has_lock, is_writing}
 use Rattle.ft_trace.specs.Addresses.{container_count, class_of, slots}
-use Rattle.ft_trace.specs.Holds.{held_words, known_state}
+use Rattle.ft_trace.specs.Holds.{held_unboxed, known_state}
 use Rattle.ft_trace.specs.Traces.{IsReachable}
 use Rattle.ft_trace.specs.Pictures.{ContainerWords, root_in, Represents, item_field}
 use Rattle.ft_trace.specs.ContainerStates.{ContainerState, kind_in}
 use Rattle.ft_bank.specs.declared.table.Table.{Table}
 use Rattle.ft_bank.specs.TableNames.{table_id}
-use Rattle.ft_bank.specs.Whole.{OnlyLoaded, OnlyPut}
+use Rattle.ft_bank.specs.Whole.{OnlyLoaded, OnlyWritten}
 use Rattle.ft_bank.specs.WriteSteps.{with_block}
-use Rattle.ft_bank.proofs.KnownAfterWrites.{loaded_held, work_knows}
+use Rattle.ft_bank.proofs.KnownAfterWrites.{work_knows}
 use Rattle.ft_list.specs.declared.addition.Addition.{Addition}
 use Rattle.ft_list.specs.declared.addition.Addition.TheVariants.{One, All}
 use Rattle.ft_list.specs.ListWrites.{MayWriteList}
@@ -66,40 +66,40 @@ module _ (k : Shape) (m : ℕ) (v : View) (list : KnowsItems k m v) (shape : v.s
   pub knows_list : (known_state m v).content ≡ content.List (known_items m v)
   knows_list = list_content v m possible list.locked (ap (λ (z : Shape). kind_in z.starts m) shape ∙ list.kind)
 
-  room_at : (t : ℕ) → root_in (held_words m v) ≡ suc t → (length (known_items m v) ≤ slots (class_of t)) × (length (known_items m v) ≤ 65536)
+  room_at : (t : ℕ) → root_in (held_unboxed m v) ≡ suc t → (length (known_items m v) ≤ slots (class_of t)) × (length (known_items m v) ≤ 65536)
   room_at t names =
       let says = (list_known k.texts v m t knows_list list.stands names).0 in
       let is_class = says.head.root.1.0 in
-      let few = list_few (class_of t) is_class (known_items m v) (0 ∷ 0 ∷ (held_words m v).table) says.table in
+      let few = list_few (class_of t) is_class (known_items m v) (0 ∷ 0 ∷ (held_unboxed m v).table) says.table in
       let most = class_few (class_of t) is_class in
       (few, omega (arith, few, most))
 
-  stored_there : (t p : ℕ) → root_in (held_words m v) ≡ suc t → p < length (known_items m v) → (p < slots (class_of t)) × IsStored (item_field (held_words m v).table p 1) (item_field (held_words m v).table p 2) (stored_item (known_items m v) p)
+  stored_there : (t p : ℕ) → root_in (held_unboxed m v) ≡ suc t → p < length (known_items m v) → (p < slots (class_of t)) × IsStored (item_field (held_unboxed m v).table p 1) (item_field (held_unboxed m v).table p 2) (stored_item (known_items m v) p)
   stored_there t p names low =
       let says = (list_known k.texts v m t knows_list list.stands names).0 in
       let few = (room_at t names).0 in (
         omega (arith, few, low),
-        subst (λ (z : Stored). IsStored (item_field (held_words m v).table p 1) (item_field (held_words m v).table p 2) z) (sym (stored_some (known_items m v) p value.Nothing low))
-            (at_words (held_words m v).table p _ (says.table.items p value.Nothing low)),
+        subst (λ (z : Stored). IsStored (item_field (held_unboxed m v).table p 1) (item_field (held_unboxed m v).table p 2) z) (sym (stored_some (known_items m v) p value.Nothing low))
+            (at_words (held_unboxed m v).table p _ (says.table.items p value.Nothing low)),
       )
 
-  bare_there : root_in (held_words m v) ≡ 0 → length (known_items m v) ≡ 0
+  bare_there : root_in (held_unboxed m v) ≡ 0 → length (known_items m v) ≡ 0
   bare_there none = elim (cases_eq (length (known_items m v)) 0) [ inl e ↦ e | inr ne ↦ absurd (list_rooted k.texts v m knows_list list.stands ne none) ]
 
   pub knows_few : length (known_items m v) ≤ 65536
-  knows_few = at (root_in (held_words m v)) refl
+  knows_few = at (root_in (held_unboxed m v)) refl
     where
-      at : (root : ℕ) → root_in (held_words m v) ≡ root → length (known_items m v) ≤ 65536
+      at : (root : ℕ) → root_in (held_unboxed m v) ≡ root → length (known_items m v) ≤ 65536
       at zero none = let e = bare_there none in omega (arith, e)
       at (suc t) names = (room_at t names).1
 
   pub knows_gives : (o : ℕ) → GivesItems k o m v
-  knows_gives o = record { container = list.container; locked = list.locked; quiet = λ ne. list.even; stores = stored_there; bare = bare_there }
+  knows_gives o = record { container = list.container; kind = list.kind; locked = list.locked; quiet = λ ne. list.even; stores = stored_there; bare = bare_there }
 
 pub knows_from : (k : Shape) (o : ℕ) (v : View) → MayWriteList k o v → KnowsItems k o v
 knows_from k o v may = record { container = may.container; kind = may.kind; locked = may.locked; even = may.even o; stands = may.stands }
 
-pub knows_then : (k : Shape) (o : ℕ) (v w : View) → held_words o w ≡ held_words o v → known_state o w ≡ known_state o v → has_lock o w.log ≡ has_lock o v.log → is_writing o w.log ≡ is_writing o v.log → KnowsItems k o v → KnowsItems k o w
+pub knows_then : (k : Shape) (o : ℕ) (v w : View) → held_unboxed o w ≡ held_unboxed o v → known_state o w ≡ known_state o v → has_lock o w.log ≡ has_lock o v.log → is_writing o w.log ≡ is_writing o v.log → KnowsItems k o v → KnowsItems k o w
 knows_then k o v w same_words same_content lock writes list = record {
   container = list.container;
   kind = list.kind;
@@ -135,23 +135,23 @@ added_few k count (One place value) v shape possible is = omega arith
 added_few k count (All other more) v shape possible is = let f = knows_few k other v is.1 shape possible in let e = is.0 in omega (arith, e, f)
 
 -- where the pass knows the same of each list that it doesn't write
-pub addition_on : (k : Shape) (count : ℕ) (addition : Addition) (v w : View) → ((p : ℕ) → KnowsItems k p v → (held_words p w ≡ held_words p v) × (known_state p w ≡ known_state p v) × (has_lock p w.log ≡ has_lock p v.log) × (is_writing p w.log ≡ is_writing p v.log)) → IsAddition k count addition v → IsAddition k count addition w
+pub addition_on : (k : Shape) (count : ℕ) (addition : Addition) (v w : View) → ((p : ℕ) → KnowsItems k p v → (held_unboxed p w ≡ held_unboxed p v) × (known_state p w ≡ known_state p v) × (has_lock p w.log ≡ has_lock p v.log) × (is_writing p w.log ≡ is_writing p v.log)) → IsAddition k count addition v → IsAddition k count addition w
 addition_on k count (One place value) v w same is = is
 addition_on k count (All other more) v w same is =
     let x = same other is.1 in
     (is.0 ∙ ap (λ (z : ContainerState). length (list_of z.content)) (sym x.1), knows_then k other v w x.0 x.1 x.2 x.3 is.1)
 
-pub addition_loaded : (k : Shape) (count : ℕ) (addition : Addition) (v w : View) → OnlyLoaded v w → IsAddition k count addition v → IsAddition k count addition w
-addition_loaded k count addition v w l is = addition_on k count addition v w (λ p list. (loaded_held v w p l, work_knows v w p l.work, l.work.pass.locks p, l.work.pass.writes p)) is
+pub addition_loaded : (k : Shape) (count : ℕ) (addition : Addition) (v w : View) → v.shape ≡ k → OnlyLoaded v w → IsAddition k count addition v → IsAddition k count addition w
+addition_loaded k count addition v w shape l is = addition_on k count addition v w (λ p list. (l.unboxed p (subst (λ (z : Shape). p < container_count z) (sym shape) list.container) list.locked, work_knows v w p l.work, l.work.pass.locks p, l.work.pass.writes p)) is
 
 -- ---- once the pass writes the list o, whose table has its items
 
 module _ (k : Shape) (o : ℕ) (table : Table) (v s : View) (list : WritesList k o table s) (first past : ℕ)
-    (putting : IsPutting (class_of (table_id table)) (known_items o v) first past (stored_item (known_items o v)) (held_words o s).table)
+    (putting : IsPutting (class_of (table_id table)) (known_items o v) first past (stored_item (known_items o v)) (held_unboxed o s).table)
     (few : length (known_items o v) ≤ slots (class_of (table_id table)))
     (known_same : (p : ℕ) → known_state p s ≡ known_state p v)
     (shape : s.shape ≡ k) (possible : ∥ IsReachable s ∥₁)
-    (others : (p : ℕ) → p ≢ o → KnowsItems k p v → (held_words p s ≡ held_words p v) × (has_lock p s.log ≡ has_lock p v.log) × (is_writing p s.log ≡ is_writing p v.log)) where
+    (others : (p : ℕ) → p ≢ o → KnowsItems k p v → (held_unboxed p s ≡ held_unboxed p v) × (has_lock p s.log ≡ has_lock p v.log) × (is_writing p s.log ≡ is_writing p v.log)) where
   abbrev class : ℕ
   class = class_of (table_id table)
 
@@ -161,6 +161,7 @@ module _ (k : Shape) (o : ℕ) (table : Table) (v s : View) (list : WritesList k
   gives_itself : GivesItems k o o s
   gives_itself = record {
     container = list.container;
+    kind = list.kind;
     locked = list.locked;
     quiet = λ ne. absurd (ne refl);
     stores = λ t p names low.
@@ -169,7 +170,7 @@ module _ (k : Shape) (o : ℕ) (table : Table) (v s : View) (list : WritesList k
         let long : length (known_items o s) ≡ length (known_items o v) = ap length items in
         let less : p < slots class = omega (arith, low, long, few) in (
           subst (λ (n : ℕ). p < slots (class_of n)) same less,
-          subst (λ (l : List Value). IsStored (item_field (held_words o s).table p 1) (item_field (held_words o s).table p 2) (stored_item l p)) (sym items) (putting.items p less),
+          subst (λ (l : List Value). IsStored (item_field (held_unboxed o s).table p 1) (item_field (held_unboxed o s).table p 2) (stored_item l p)) (sym items) (putting.items p less),
         );
     bare = λ none. absurd (let r = list.root in omega (arith, r, none));
   }
@@ -184,13 +185,14 @@ module _ (k : Shape) (o : ℕ) (table : Table) (v s : View) (list : WritesList k
   addition_begun count (One place value) is = is
   addition_begun count (All other more) is = (is.0 ∙ ap length (sym (items_same other)), gives_other other is.1)
 
-pub gives_loaded : (k : Shape) (o m : ℕ) (v w : View) → OnlyLoaded v w → GivesItems k o m v → GivesItems k o m w
-gives_loaded k o m v w l gives =
-    let h = loaded_held v w m l in
+pub gives_loaded : (k : Shape) (o m : ℕ) (v w : View) → v.shape ≡ k → OnlyLoaded v w → GivesItems k o m v → GivesItems k o m w
+gives_loaded k o m v w shape l gives =
+    let h = l.unboxed m (subst (λ (z : Shape). m < container_count z) (sym shape) gives.container) gives.locked in
     let c : known_state m w ≡ known_state m v = work_knows v w m l.work in
     let long : length (known_items m w) ≡ length (known_items m v) = ap (λ (z : ContainerState). length (list_of z.content)) c in
     record {
       container = gives.container;
+      kind = gives.kind;
       locked = l.work.pass.locks m ∙ gives.locked;
       quiet = λ ne. l.work.pass.writes m ∙ gives.quiet ne;
       stores = λ t p names low.
@@ -203,33 +205,34 @@ gives_loaded k o m v w l gives =
 
 -- ---- while the items are put
 
-module _ (k : Shape) (o m : ℕ) (table : Table) (v w : View) (shape : v.shape ≡ k) (only : OnlyPut o v w) (before : WritesList k o table v) (after : WritesList k o table w) (gives : GivesItems k o m v) where
+module _ (k : Shape) (o m : ℕ) (table : Table) (v w : View) (shape : v.shape ≡ k) (only : OnlyWritten o v w) (before : WritesList k o table v) (after : WritesList k o table w) (gives : GivesItems k o m v) where
   there : m < container_count v.shape
   there = subst (λ (z : Shape). m < container_count z) (sym shape) gives.container
 
-  held_same : m ≢ o → held_words m w ≡ held_words m v
-  held_same ne = only.others m there ne gives.locked (gives.quiet ne)
+  held_same : m ≢ o → held_unboxed m w ≡ held_unboxed m v
+  held_same ne = (only.others m there ne gives.locked (gives.quiet ne)).1
 
-  pub root_put : root_in (held_words m w) ≡ root_in (held_words m v)
+  pub root_put : root_in (held_unboxed m w) ≡ root_in (held_unboxed m v)
   root_put = elim (cases_eq m o) [
-    | inl e ↦ (subst (λ (q : ℕ). root_in (held_words q w) ≡ root_in (held_words q v)) (sym e) (after.root ∙ sym before.root))
+    | inl e ↦ (subst (λ (q : ℕ). root_in (held_unboxed q w) ≡ root_in (held_unboxed q v)) (sym e) (after.root ∙ sym before.root))
     | inr ne ↦ ap root_in (held_same ne)
   ]
 
-  pub gives_put : (values others : List Value) (first past at : ℕ) → IsMoving (class_of (table_id table)) values (values ++ others) first past at (held_words o w).table → known_items o v ≡ values → length values ≤ at → length values ≤ slots (class_of (table_id table)) → GivesItems k o m w
+  pub gives_put : (values others : List Value) (first past at : ℕ) → IsMoving (class_of (table_id table)) values (values ++ others) first past at (held_unboxed o w).table → known_items o v ≡ values → length values ≤ at → length values ≤ slots (class_of (table_id table)) → GivesItems k o m w
   gives_put values others first past at moving items done few = record {
     container = gives.container;
+    kind = gives.kind;
     locked = only.work.pass.locks m ∙ gives.locked;
     quiet = λ ne. only.work.pass.writes m ∙ gives.quiet ne;
     stores = elim (cases_eq m o) [
-      | inl e ↦ subst (λ (q : ℕ). (t p : ℕ) → root_in (held_words q w) ≡ suc t → p < length (known_items q w) → (p < slots (class_of t)) × IsStored (item_field (held_words q w).table p 1) (item_field (held_words q w).table p 2) (stored_item (known_items q w) p)) (sym e)
+      | inl e ↦ subst (λ (q : ℕ). (t p : ℕ) → root_in (held_unboxed q w) ≡ suc t → p < length (known_items q w) → (p < slots (class_of t)) × IsStored (item_field (held_unboxed q w).table p 1) (item_field (held_unboxed q w).table p 2) (stored_item (known_items q w) p)) (sym e)
           (λ t p names low.
           let same : table_id table ≡ t = let x : suc (table_id table) ≡ suc t = sym after.root ∙ names in omega (arith, x) in
           let all : known_items o w ≡ values = ap (λ (z : ContainerState). list_of z.content) (work_knows v w o only.work) ∙ items in
           let long : length (known_items o w) ≡ length values = ap length all in
           let less : p < slots (class_of (table_id table)) = omega (arith, low, long, few) in (
             subst (λ (n : ℕ). p < slots (class_of n)) same less,
-            subst (λ (z : Stored). IsStored (item_field (held_words o w).table p 1) (item_field (held_words o w).table p 2) z)
+            subst (λ (z : Stored). IsStored (item_field (held_unboxed o w).table p 1) (item_field (held_unboxed o w).table p 2) z)
                 (moving.done p (omega (arith, low, long, done)) ∙ (sym (append_low values others p (omega (arith, low, long))) ∙ ap (λ (l : List Value). stored_item l p) (sym all)))
                 (moving.putting.items p less),
           ))

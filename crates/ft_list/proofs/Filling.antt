@@ -111,9 +111,9 @@ module _ (class : ℕ) (is_class : IsClass class) (values : List Value) where
       }
 
   -- a table is as long as its class says
-  table_is_long : size class + 2 ≡ table_length (class_mask class)
+  pub words_of_class : size class + 2 ≡ table_length (class_mask class)
   unfolding slots places
-  table_is_long = let s = sizes_of_class class is_class in let d = s.0 in let m = s.2 in omega (arith, d, m)
+  words_of_class = let s = sizes_of_class class is_class in let d = s.0 in let m = s.2 in omega (arith, d, m)
 
   module _ (ws : List ℕ) (is : IsFilled class values (slots class) ws) where
     pub filled_says : (p : ℕ) → p < slots class → words_at values p ≡ said_at ws p
@@ -124,7 +124,7 @@ module _ (class : ℕ) (is_class : IsClass class) (values : List Value) where
     -- the table of a list that puts no item yet
     pub filled_putting : (first past : ℕ) → IsPutting class values first past (stored_item values) ws
     filled_putting first past = record {
-      size = ap (λ (n : ℕ). n + 2) is.long ∙ table_is_long;
+      size = ap (λ (n : ℕ). n + 2) is.long ∙ words_of_class;
       spare = is.spare;
       items = is.items;
       shut = λ p low two. words_stored values p;

@@ -16,7 +16,7 @@ use Rattle.ft_trace.specs.ContainerStates.{ContainerState, kind_in}
 use Rattle.ft_trace.specs.Pictures.{ContainerWords, root_in, Represents}
 use Rattle.ft_trace.specs.Kinds.{rows, version_at}
 use Rattle.ft_trace.specs.OddVersions.{Shut}
-use Rattle.ft_trace.specs.Holds.{held_words, known_state}
+use Rattle.ft_trace.specs.Holds.{held_unboxed, known_state}
 use Rattle.ft_bank.specs.declared.table.Table.{Table}
 use Rattle.ft_bank.specs.TableNames.{table_id}
 use Rattle.ft_bank.specs.WriteSteps.{Committed, IsShut, with_block}
@@ -36,26 +36,26 @@ pub list_stands : (texts : List ℕ) (table : Table) (values before : List Value
 list_stands texts table values before first past words kept is head changing =
     subst (Represents texts words) (sym is) (record { head = head; table = changing.table }, refl)
 
-pub list_is_shut : (k : Shape) (o : ℕ) (table : Table) (v : View) (before now : List Value) (past : ℕ) → WritesList k o table v → v.shape ≡ k → IsChanging (class_of (table_id table)) before now past past (held_words o v).table → IsShut o v
+pub list_is_shut : (k : Shape) (o : ℕ) (table : Table) (v : View) (before now : List Value) (past : ℕ) → WritesList k o table v → v.shape ≡ k → IsChanging (class_of (table_id table)) before now past past (held_unboxed o v).table → IsShut o v
 list_is_shut k o table v before now past list shape changing t names =
     let class = class_of (table_id table) in
     let same : table_id table ≡ t = let e : suc (table_id table) ≡ suc t = sym list.root ∙ names in omega (arith, e) in
     let is_kind : kind.List ≡ kind_in v.shape.starts o = sym (ap (λ (z : Shape). kind_in z.starts o) shape ∙ list.kind) in
-    let shut : Shut (version_at kind.List class) (rows kind.List class) (held_words o v).table = all_shut class before now past past (held_words o v).table changing (omega arith) in
-    subst (λ (n : ℕ). Shut (version_at (kind_in v.shape.starts o) (class_of n)) (rows (kind_in v.shape.starts o) (class_of n)) (held_words o v).table) same
-    (subst (λ (z : Kind). Shut (version_at z class) (rows z class) (held_words o v).table) is_kind shut)
+    let shut : Shut (version_at kind.List class) (rows kind.List class) (held_unboxed o v).table = all_shut class before now past past (held_unboxed o v).table changing (omega arith) in
+    subst (λ (n : ℕ). Shut (version_at (kind_in v.shape.starts o) (class_of n)) (rows (kind_in v.shape.starts o) (class_of n)) (held_unboxed o v).table) same
+    (subst (λ (z : Kind). Shut (version_at z class) (rows z class) (held_unboxed o v).table) is_kind shut)
 
 -- the words stand for the list once its versions are even
-pub stands_at_end : (texts : List ℕ) (o : ℕ) (table : Table) (called : Call) (said : Reply) (first past : ℕ) (u w z : View) → (m : MayFinishItems o table called said first past u) → Committed u w called → held_words o w ≡ held_words o u → SameWork w z → (held_words o z).block ≡ (held_words o w).block → IsChanging (class_of (table_id table)) (known_items o w) (known_items o w) past past (held_words o z).table → Represents texts (held_words o z) (known_state o z)
+pub stands_at_end : (texts : List ℕ) (o : ℕ) (table : Table) (called : Call) (said : Reply) (first past : ℕ) (u w z : View) → (m : MayFinishItems o table called said first past u) → Committed u w called → held_unboxed o w ≡ held_unboxed o u → SameWork w z → (held_unboxed o z).block ≡ (held_unboxed o w).block → IsChanging (class_of (table_id table)) (known_items o w) (known_items o w) past past (held_unboxed o z).table → Represents texts (held_unboxed o z) (known_state o z)
 stands_at_end texts o table called said first past u w z m committed same work block closed =
     let class = class_of (table_id table) in
     let after = kept_after o table called said first past u w m committed in
     let items : known_items o w ≡ m.after = ap (λ (k : ContainerState). list_of k.content) after in
-    let blocks : (held_words o u).block ≡ (held_words o z).block = sym (block ∙ ap (λ (x : ContainerWords). x.block) same) in
-    list_stands texts table m.after m.after past past (held_words o z) (known_state o z)
+    let blocks : (held_unboxed o u).block ≡ (held_unboxed o z).block = sym (block ∙ ap (λ (x : ContainerWords). x.block) same) in
+    list_stands texts table m.after m.after past past (held_unboxed o z) (known_state o z)
     (work_knows w z o work ∙ after)
     (subst (λ (b : List ℕ). IsBlock b (Some class) (length m.after) 0 0) blocks m.head)
-    (subst (λ (l : List Value). IsChanging class l l past past (held_words o z).table) items closed)
+    (subst (λ (l : List Value). IsChanging class l l past past (held_unboxed o z).table) items closed)
 
 -- a block that counts another number of items
 pub with_count : (b : List ℕ) (class : Option ℕ) (old new : ℕ) → IsBlock b class old 0 0 → IsBlock (slice_set b 1 new) class new 0 0

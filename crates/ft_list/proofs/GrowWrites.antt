@@ -17,12 +17,12 @@ use Rattle.ft_trace.specs.Addresses.{class_of}
 use Rattle.ft_trace.specs.Acts.{has_lock, is_writing, has_emptied, owes, view_after}
 use Rattle.ft_trace.specs.ContainerStates.{ContainerState, changes}
 use Rattle.ft_trace.specs.Pictures.{root_in}
-use Rattle.ft_trace.specs.Holds.{held_words, known_state}
+use Rattle.ft_trace.specs.Holds.{held_unboxed, known_state, held_words}
 use Rattle.ft_trace.proofs.Cases.{hit}
 use Rattle.ft_bank.specs.declared.table.Table.{Table}
 use Rattle.ft_bank.specs.TableNames.{table_id}
 use Rattle.ft_bank.specs.WriteSteps.{KeepsUnwritten}
-use Rattle.ft_bank.specs.Whole.{OnlyPut, EndsWrite, Wrote}
+use Rattle.ft_bank.specs.Whole.{OnlyWritten, EndsWrite, Wrote}
 use Rattle.ft_bank.proofs.KnownAfterWrites.{work_knows}
 use Rattle.ft_table_calls.specs.Adding.{OnlyFilled}
 use Rattle.ft_table_calls.proofs.Rooting.{rooted_write, filled_wrote}
@@ -32,12 +32,13 @@ use Rattle.ft_list.specs.Internal.NewListTables.{MayGrowList}
 use Rattle.ft_list.proofs.Commits.{may_finish}
 use Rattle.ft_list.proofs.WholeListWrites.{grows_on}
 use Rattle.ft_list.proofs.ItemWordsPut.{Changed}
+use Rattle.ft_bank.specs.SameBoxes.{MovesReferences}
 
 -- a write of the list o changes it
 pub list_changes : (o : ℕ) (lc : ListCall) (called : Call) → called ≡ call.List o lc → is_changing_list lc ≡ true → changes called ≡ o
 list_changes o lc called is changing = ap changes is ∙ ap (λ (b : Bool). unwrap_or (if b then Some o else None) 0) changing
 
-module _ (k : Shape) (o : ℕ) (old : Option Table) (table : Table) (v r u : View) (f : ℕ) (may : MayGrowList k o old table v) (is : r ≡ view_after (PutRoot o (suc (table_id table)) (root_in (held_words o v))) (view_after (StartWrite o f) v)) (puts : OnlyPut o r u) where
+module _ (k : Shape) (o : ℕ) (old : Option Table) (table : Table) (v r u : View) (f : ℕ) (may : MayGrowList k o old table v) (is : r ≡ view_after (PutRoot o (suc (table_id table)) (root_in (held_unboxed o v))) (view_after (StartWrite o f) v)) (puts : OnlyWritten o r u) where
   known_then : (p : ℕ) → known_state p u ≡ known_state p v
   known_then p = work_knows r u p puts.work ∙ ap (λ (z : View). known_state p z) is
 
@@ -52,7 +53,7 @@ module _ (k : Shape) (o : ℕ) (old : Option Table) (table : Table) (v r u : Vie
       let after : has_emptied o r.log ≡ (suc (table_id table) == 0) = ap (λ (z : View). has_emptied o z.log) is ∙ hit o (suc (table_id table) == 0) _ in
       puts.work.emptied o ∙ (after ∙ ne_eqb (suc (table_id table)) 0 (λ e. absurd (omega (arith, e))))
 
-  pub grow_finishing : (first past : ℕ) (lc : ListCall) (called : Call) (values news : List Value) → called ≡ call.List o lc → Grows o lc values news (class_of (table_id table)) v → (known_state o v).content ≡ content.List values → WritesList k o table u → u.shape ≡ k → Changed (class_of (table_id table)) values news first past (held_words o u).table → IsBlock (held_words o u).block (Some (class_of (table_id table))) (length news) 0 0
+  pub grow_finishing : (first past : ℕ) (lc : ListCall) (called : Call) (values news : List Value) → called ≡ call.List o lc → Grows o lc values news (class_of (table_id table)) v → (known_state o v).content ≡ content.List values → WritesList k o table u → u.shape ≡ k → Changed (class_of (table_id table)) values news first past (held_unboxed o u).table → IsBlock (held_unboxed o u).block (Some (class_of (table_id table))) (length news) 0 0
       → MayFinishItems o table called reply.Done first past u
   grow_finishing first past lc called values news names grows is_list list shape changing head =
       let class = class_of (table_id table) in
@@ -67,11 +68,11 @@ module _ (k : Shape) (o : ℕ) (old : Option Table) (table : Table) (v r u : Vie
       not_emptied
       head)
 
-  pub grow_wrote : (lc : ListCall) (called : Call) (number : ℕ) (before w : View) → called ≡ call.List o lc → is_changing_list lc ≡ true → OnlyFilled before v → root_in (held_words o v) ≡ root_in (held_words o before) → root_in (held_words o v) ≢ suc (table_id table) → KeepsUnwritten (view_after (StartWrite o f) v) r → root_in (held_words o u) ≡ suc (table_id table) → EndsWrite called reply.Done number u w → Wrote called reply.Done number before w
-  grow_wrote lc called number before w names changing only same new keeps root ends =
+  pub grow_wrote : (lc : ListCall) (called : Call) (number : ℕ) (before w : View) → called ≡ call.List o lc → is_changing_list lc ≡ true → OnlyFilled before v → held_words o v ≡ held_words o before → root_in (held_words o v) ≢ suc (table_id table) → KeepsUnwritten (view_after (StartWrite o f) v) r → MovesReferences o (view_after (StartWrite o f) v) r → root_in (held_words o u) ≡ suc (table_id table) → EndsWrite called reply.Done number u w → Wrote called reply.Done number before w
+  grow_wrote lc called number before w names changing only same new keeps moves root ends =
       let at = list_changes o lc called names changing in
       filled_wrote called reply.Done number before v w only
-      (subst (λ (n : ℕ). root_in (held_words n v) ≡ root_in (held_words n before)) (sym at) same)
-      (subst (λ (n : ℕ). r ≡ view_after (PutRoot n (suc (table_id table)) (root_in (held_words n v))) (view_after (StartWrite n f) v) → is_writing n v.log ≡ false → root_in (held_words n v) ≢ suc (table_id table) → KeepsUnwritten (view_after (StartWrite n f) v) r → OnlyPut n r u → root_in (held_words n u) ≡ suc (table_id table) → EndsWrite called reply.Done number u w → Wrote called reply.Done number v w) at
+      (subst (λ (n : ℕ). held_words n v ≡ held_words n before) (sym at) same)
+      (subst (λ (n : ℕ). r ≡ view_after (PutRoot n (suc (table_id table)) (root_in (held_words n v))) (view_after (StartWrite n f) v) → is_writing n v.log ≡ false → root_in (held_words n v) ≢ suc (table_id table) → KeepsUnwritten (view_after (StartWrite n f) v) r → MovesReferences n (view_after (StartWrite n f) v) r → OnlyWritten n r u → root_in (held_words n u) ≡ suc (table_id table) → EndsWrite called reply.Done number u w → Wrote called reply.Done number v w) at
       (rooted_write called reply.Done number f (suc (table_id table)) v r u w)
-      is may.list.even new keeps puts root ends)
+      is may.list.even new keeps moves puts root ends)

@@ -17,7 +17,7 @@ use Rattle.ft_trace.specs.declared.Shape.{Shape}
 use Rattle.ft_trace.specs.declared.View.{View}
 use Rattle.ft_trace.specs.Acts.{has_lock, is_writing, mem, view_after, stage}
 use Rattle.ft_trace.specs.Addresses.{container_count, class_of, slots}
-use Rattle.ft_trace.specs.Holds.{held_words, known_state, in_hand}
+use Rattle.ft_trace.specs.Holds.{held_unboxed, known_state, in_hand, hand_unboxed}
 use Rattle.ft_trace.specs.Kinds.{rows, version_at, SoundAs}
 use Rattle.ft_trace.specs.OddVersions.{Shut}
 use Rattle.ft_trace.specs.Traces.{IsReachable}
@@ -36,10 +36,14 @@ use Rattle.ft_list.proofs.Cares.{table_class}
 use Rattle.ft_list.proofs.Filling.{filled_sound}
 use Rattle.ft_list.proofs.Lists.{list_content, list_known, list_rooted, list_shut}
 use Rattle.ft_list.proofs.ItemWordsPut.{at_words, list_few, stored_some}
+use Rattle.ft_search.proofs.Puts.{done_then, few_done}
+use Rattle.ft_table_calls.proofs.PlainTables.{ArePlain, plain_reads, plain_named}
+use Rattle.ft_list.proofs.ItemValues.{item_plain}
+use Rattle.ft_trace.specs.Boxes.{known_box_word, named_in_root}
 
 -- ---- what a pass knows of a list stays, where it knows the same words and the same content
 
-pub knows_on : (k : Shape) (o : ℕ) (old : Option Table) (v w : View) → held_words o w ≡ held_words o v → known_state o w ≡ known_state o v → has_lock o w.log ≡ has_lock o v.log → is_writing o w.log ≡ is_writing o v.log → KnowsList k o old v → KnowsList k o old w
+pub knows_on : (k : Shape) (o : ℕ) (old : Option Table) (v w : View) → held_unboxed o w ≡ held_unboxed o v → known_state o w ≡ known_state o v → has_lock o w.log ≡ has_lock o v.log → is_writing o w.log ≡ is_writing o v.log → KnowsList k o old v → KnowsList k o old w
 knows_on k o old v w same_words same_content lock writes list = record {
   container = list.container;
   kind = list.kind;
@@ -55,7 +59,7 @@ pub knows_filled : (k : Shape) (o : ℕ) (old : Option Table) (v w : View) → v
 knows_filled k o old v w shape only list =
     let low : o < container_count v.shape = subst (λ (z : Shape). o < container_count z) (sym shape) list.container in
     let x = only.keeps o low list.locked list.even in
-    knows_on k o old v w x.0 x.1 (only.work.pass.locks o) (only.work.pass.writes o) list
+    knows_on k o old v w x.2 x.1 (only.work.pass.locks o) (only.work.pass.writes o) list
 
 pub grow_filled : (k : Shape) (o : ℕ) (old : Option Table) (table : Table) (v w : View) → v.shape ≡ k → OnlyFilled v w → MayGrowList k o old table v → MayGrowList k o old table w
 grow_filled k o old table v w shape only may = record {
@@ -65,6 +69,7 @@ grow_filled k o old table v w shape only may = record {
   owed = only.work.owes ∙ may.owed;
   fresh = only.work.hands (table_id table) ∙ may.fresh;
   table_in = may.table_in;
+  boxes = done_then k v w shape only.work.pass.shape only.references only.made may.boxes;
   left = subst (λ (n : ℕ). 0 < n) (sym only.work.left) may.left;
 }
 
@@ -87,9 +92,9 @@ with_other_root b class k table count h table_in =
     }
 
 -- the block of a list
-pub list_head : (texts : List ℕ) (v : View) (o : ℕ) → (known_state o v).content ≡ content.List (known_items o v) → Represents texts (held_words o v) (known_state o v) → IsBlock (held_words o v).block (known_state o v).table.class (length (known_items o v)) 0 0
+pub list_head : (texts : List ℕ) (v : View) (o : ℕ) → (known_state o v).content ≡ content.List (known_items o v) → Represents texts (held_unboxed o v) (known_state o v) → IsBlock (held_unboxed o v).block (known_state o v).table.class (length (known_items o v)) 0 0
 list_head texts v o is stands =
-    let says : IsListWords (held_words o v).block (0 ∷ 0 ∷ (held_words o v).table) (known_state o v).table.class (known_items o v) × ((known_state o v).table.fill ≡ 0) = subst (λ (z : Content). StandsAs texts (held_words o v).block (0 ∷ 0 ∷ (held_words o v).table) (known_state o v).table z) is stands in
+    let says : IsListWords (held_unboxed o v).block (0 ∷ 0 ∷ (held_unboxed o v).table) (known_state o v).table.class (known_items o v) × ((known_state o v).table.fill ≡ 0) = subst (λ (z : Content). StandsAs texts (held_unboxed o v).block (0 ∷ 0 ∷ (held_unboxed o v).table) (known_state o v).table z) is stands in
     says.0.head
 
 module _ (k : Shape) (o : ℕ) (old : Option Table) (table : Table) (v : View) (may : MayGrowList k o old table v) (shape : v.shape ≡ k) (possible : ∥ IsReachable v ∥₁) where
@@ -112,39 +117,56 @@ module _ (k : Shape) (o : ℕ) (old : Option Table) (table : Table) (v : View) (
   the_one t e = ap (λ (z : Option Table). unwrap_or z table) e
 
   module _ (filled : IsFilled c (known_items o v) (slots c) ws) (room : length (known_items o v) ≤ slots c) where
-    sound_here : SoundAs (kind_in v.shape.starts o) v.shape.texts c ws (known_state o v).content
-    sound_here = subst (λ (z : Kind). SoundAs z v.shape.texts c ws (known_state o v).content) (sym list_kind) (filled_sound c (table_class k table may.table_in) (known_items o v) ws filled room)
+    -- the new table names no box, and reads as it stands
+    plain_here : ArePlain (kind_in v.shape.starts o) c ws (rows (kind_in v.shape.starts o) c)
+    plain_here = subst (λ (z : Kind). ArePlain z c ws (rows z c)) (sym list_kind) (λ p less e. item_plain (known_items o v) p (sym (filled.items p less).kind_is ∙ e))
 
-    young_here : (p : ℕ) → p < rows (kind_in v.shape.starts o) c → slice_index ws (version_at (kind_in v.shape.starts o) c p) ≡ 0
-    young_here = subst (λ (z : Kind). (p : ℕ) → p < rows z c → slice_index ws (version_at z c p) ≡ 0) (sym list_kind) filled.version
+    pub new_reads : hand_unboxed o (table_id table) v ≡ ws
+    new_reads = plain_reads (λ b i. known_box_word v.shape b i v.log) (kind_in v.shape.starts o) (table_id table) ws plain_here
 
-    shut_here : (t : ℕ) → root_in (held_words o v) ≡ suc t → Shut (version_at (kind_in v.shape.starts o) (class_of t)) (rows (kind_in v.shape.starts o) (class_of t)) (held_words o v).table
-    shut_here t names = subst (λ (z : Kind). Shut (version_at z (class_of t)) (rows z (class_of t)) (held_words o v).table) (sym list_kind) (list_shut v o t possible low may.list.locked may.list.even list_kind names)
+    pub new_names : (b : ℕ) → named_in_root b (kind_in v.shape.starts o) (suc (table_id table)) ws ≡ 0
+    new_names b = plain_named b (table_id table) (kind_in v.shape.starts o) ws plain_here
+
+    sound_here : SoundAs (kind_in v.shape.starts o) v.shape.texts c (hand_unboxed o (table_id table) v) (known_state o v).content
+    sound_here =
+        subst (λ (z : Kind × List ℕ). SoundAs z.0 v.shape.texts c z.1 (known_state o v).content) (λ d. (sym list_kind d, sym new_reads d))
+        (filled_sound c (table_class k table may.table_in) (known_items o v) ws filled room)
+
+    young_here : (p : ℕ) → p < rows (kind_in v.shape.starts o) c → slice_index (hand_unboxed o (table_id table) v) (version_at (kind_in v.shape.starts o) c p) ≡ 0
+    young_here = subst (λ (z : Kind × List ℕ). (p : ℕ) → p < rows z.0 c → slice_index z.1 (version_at z.0 c p) ≡ 0) (λ d. (sym list_kind d, sym new_reads d)) filled.version
+
+    shut_here : (t : ℕ) → root_in (held_unboxed o v) ≡ suc t → Shut (version_at (kind_in v.shape.starts o) (class_of t)) (rows (kind_in v.shape.starts o) (class_of t)) (held_unboxed o v).table
+    shut_here t names = subst (λ (z : Kind). Shut (version_at z (class_of t)) (rows z (class_of t)) (held_unboxed o v).table) (sym list_kind) (list_shut v o t possible low may.list.locked may.list.even list_kind names)
 
     pub may_root : (f : ℕ) → MayPutRoot (view_after (StartWrite o f) v) o (Some table)
     may_root f = record {
       odd = hit o true (is_writing o v.log);
       fresh = λ t e. subst (λ (z : Table). stage (table_id z) v.log ≡ 1) (the_one t e) may.fresh;
-      sound = λ t e. subst (λ (z : Table). SoundAs (kind_in v.shape.starts o) v.shape.texts (class_of (table_id z)) (in_hand (table_id z) v) (known_state o v).content) (the_one t e) sound_here;
+      sound = λ t e. subst (λ (z : Table). SoundAs (kind_in v.shape.starts o) v.shape.texts (class_of (table_id z)) (hand_unboxed o (table_id z) v) (known_state o v).content) (the_one t e) sound_here;
       young = λ t p e row.
-          let here = subst (λ (z : Table). (q : ℕ) → q < rows (kind_in v.shape.starts o) (class_of (table_id z)) → slice_index (in_hand (table_id z) v) (version_at (kind_in v.shape.starts o) (class_of (table_id z)) q) ≡ 0) (the_one t e) young_here p row in
+          let here = subst (λ (z : Table). (q : ℕ) → q < rows (kind_in v.shape.starts o) (class_of (table_id z)) → slice_index (hand_unboxed o (table_id z) v) (version_at (kind_in v.shape.starts o) (class_of (table_id z)) q) ≡ 0) (the_one t e) young_here p row in
           (omega (arith, here), (λ late. here));
       shut = shut_here;
       spare = λ some_one. may.used;
       early = λ e. absurd (true≢false (ap is_some e));
+      references = record {
+        few = few_done k v shape may.boxes;
+        enough = λ b. let none = new_names b in omega (arith, none);
+        known = λ b old_none some_. absurd (some_ (new_names b));
+      };
     }
 
 -- ---- what the table of a list stores
 
-pub list_stores : (k : Shape) (o : ℕ) (table : Table) (v : View) → KnowsList k o (Some table) v → (known_state o v).content ≡ content.List (known_items o v) → (p : ℕ) → p < length (known_items o v) → (p < slots (class_of (table_id table))) × IsStored (item_field (held_words o v).table p 1) (item_field (held_words o v).table p 2) (stored_item (known_items o v) p)
+pub list_stores : (k : Shape) (o : ℕ) (table : Table) (v : View) → KnowsList k o (Some table) v → (known_state o v).content ≡ content.List (known_items o v) → (p : ℕ) → p < length (known_items o v) → (p < slots (class_of (table_id table))) × IsStored (item_field (held_unboxed o v).table p 1) (item_field (held_unboxed o v).table p 2) (stored_item (known_items o v) p)
 list_stores k o table v list is p less =
     let class = class_of (table_id table) in
     let is_class = table_class k table (list.table_in table refl) in
     let words = (list_known k.texts v o (table_id table) is list.stands list.root).0 in
-    let few = list_few class is_class (known_items o v) (0 ∷ 0 ∷ (held_words o v).table) words.table in (
+    let few = list_few class is_class (known_items o v) (0 ∷ 0 ∷ (held_unboxed o v).table) words.table in (
       omega (arith, few, less),
-      subst (λ (z : Stored). IsStored (item_field (held_words o v).table p 1) (item_field (held_words o v).table p 2) z) (sym (stored_some (known_items o v) p value.Nothing less))
-          (at_words (held_words o v).table p (Plain (slice_index_or (known_items o v) p value.Nothing)) (words.table.items p value.Nothing less)),
+      subst (λ (z : Stored). IsStored (item_field (held_unboxed o v).table p 1) (item_field (held_unboxed o v).table p 2) z) (sym (stored_some (known_items o v) p value.Nothing less))
+          (at_words (held_unboxed o v).table p (Plain (slice_index_or (known_items o v) p value.Nothing)) (words.table.items p value.Nothing less)),
     )
 
 -- a list without a table stores nothing
@@ -160,8 +182,8 @@ pub hand_loaded : (t : ℕ) (v w : View) → OnlyLoaded v w → in_hand t w ≡ 
 hand_loaded t v w l = ap (λ (z : Shape). table_words z t (mem z w.log)) l.work.pass.shape ∙ ap (λ (ws : List ℕ). table_words v.shape t ws) l.words
 
 -- no version is odd in the table of a list that nobody writes
-pub knows_shut : (k : Shape) (o : ℕ) (old : Option Table) (v : View) → v.shape ≡ k → ∥ IsReachable v ∥₁ → KnowsList k o old v → (t : ℕ) → root_in (held_words o v) ≡ suc t → Shut (version_at (kind_in v.shape.starts o) (class_of t)) (rows (kind_in v.shape.starts o) (class_of t)) (held_words o v).table
+pub knows_shut : (k : Shape) (o : ℕ) (old : Option Table) (v : View) → v.shape ≡ k → ∥ IsReachable v ∥₁ → KnowsList k o old v → (t : ℕ) → root_in (held_unboxed o v) ≡ suc t → Shut (version_at (kind_in v.shape.starts o) (class_of t)) (rows (kind_in v.shape.starts o) (class_of t)) (held_unboxed o v).table
 knows_shut k o old v shape possible list t names =
     let is_kind : kind_in v.shape.starts o ≡ kind.List = ap (λ (z : Shape). kind_in z.starts o) shape ∙ list.kind in
     let low : o < container_count v.shape = subst (λ (z : Shape). o < container_count z) (sym shape) list.container in
-    subst (λ (z : Kind). Shut (version_at z (class_of t)) (rows z (class_of t)) (held_words o v).table) (sym is_kind) (list_shut v o t possible low list.locked list.even is_kind names)
+    subst (λ (z : Kind). Shut (version_at z (class_of t)) (rows z (class_of t)) (held_unboxed o v).table) (sym is_kind) (list_shut v o t possible low list.locked list.even is_kind names)

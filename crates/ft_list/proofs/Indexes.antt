@@ -1,5 +1,5 @@
 -- Reads of a list's words, one after the other, and what they show of its items.
-use Rattle.std.proofs.Common.{◌≡◌, ◌≢◌, ◌⊎◌, ℕ, ℤ, suc, ◌%◌, ◌<◌, ◌≤◌, true, List, [], ◌∷◌, ◌++◌, length, Option, Some, None, refl, sym, ap, ◌∙◌, subst, inr}
+use Rattle.std.proofs.Common.{◌≡◌, ◌≢◌, ◌⊎◌, ℕ, ℤ, suc, ◌%◌, ◌<◌, ◌≤◌, true, List, [], ◌∷◌, ◌++◌, length, Option, Some, None, refl, sym, ap, ◌∙◌, subst, inr, arith}
 use Rattle.std.specs.Prelude.{slice_index, slice_index_or, option_map}
 use Rattle.std.specs.Option.{option_map_or}
 use Rattle.ft_model.specs.declared.call.Call.TheVariants as call
@@ -26,11 +26,10 @@ use Rattle.ft_trace.specs.declared.Shape.{Shape}
 use Rattle.ft_trace.specs.declared.View.{View}
 use Rattle.ft_trace.specs.Acts.{has_lock, view_after}
 use Rattle.ft_trace.specs.Addresses.{container_count, class_of, slots}
-use Rattle.ft_trace.specs.Holds.{held_words, known_state}
+use Rattle.ft_trace.specs.Holds.{held_unboxed, known_state}
 use Rattle.ft_trace.specs.LookReplies.{item_reply}
-use Rattle.ft_trace.specs.LoggedReads.{Agrees, LookedAtOne}
-use Rattle.ft_trace.specs.Pictures.{ContainerWords, root_in, item_field, Represents}
-use Rattle.ft_trace.specs.Traces.{IsReachable}
+use Rattle.ft_trace.specs.LoggedReads.{LookedAtOne}
+use Rattle.ft_trace.specs.Pictures.{ContainerWords, root_in, item_field, Represents, item_offset}
 use Rattle.ft_trace.specs.ContainerStates.{ContainerState, state_at, kind_in, reply_in}
 use Rattle.ft_trace.proofs.Known.{class_known}
 use Rattle.ft_trace.proofs.NoTable.{no_table_stands}
@@ -50,10 +49,13 @@ use Rattle.ft_search.proofs.Lengths.{IsPlain, between_own}
 use Rattle.ft_search.proofs.Running.{did_trans}
 use Rattle.ft_search.proofs.Rounding.{looks_append}
 use Rattle.ft_list.specs.Indexes.{item_named, IsItemNamed, ShowsNamed}
-use Rattle.ft_reads.specs.Reads.{Reads}
+use Rattle.ft_reads.specs.Reads.{Reads, ShowsRead}
 use Rattle.ft_list.proofs.Lists.{list_content}
 use Rattle.ft_list.proofs.ItemWordsPut.{at_words, list_few}
-use Rattle.ft_reads.proofs.Agreeing.{agrees_older}
+use Rattle.ft_reads.proofs.Agreeing.{read_older}
+use Rattle.ft_list.proofs.Filling.{words_of_class}
+use Rattle.ft_trace.proofs.ByKind.{items_fit}
+use Rattle.ft_list.proofs.ValueReads.{held_shows}
 
 -- ---- what words say of a list
 
@@ -68,13 +70,16 @@ list_words texts x kept is stands = by kept.content kept.table is stands
 
 -- a list has no more items than its table has places, and each says its value
 pub item_says : (texts : List ℕ) (x : ContainerWords) (kept : ContainerState) (t : ℕ) → IsClass (class_of t) → kind_of kept.content ≡ kind.List → Represents texts x kept → root_in x ≡ suc t → (length (list_of kept.content) ≤ slots (class_of t))
-    × ((place : ℕ) → place < length (list_of kept.content) → IsStored (item_field x.table place 1) (item_field x.table place 2) (Plain (slice_index_or (list_of kept.content) place value.Nothing)))
+    × ((place : ℕ) → place < length (list_of kept.content) → (item_offset place 3 ≤ length x.table) × IsStored (item_field x.table place 1) (item_field x.table place 2) (Plain (slice_index_or (list_of kept.content) place value.Nothing)))
 item_says texts x kept t class is stands names =
     let values = list_of kept.content in
     let says = list_words texts x kept is stands in
     let table = subst (λ (z : Option ℕ). InListTable (0 ∷ 0 ∷ x.table) z values) (class_known texts x kept t stands names) says.table in (
       list_few (class_of t) class values (0 ∷ 0 ∷ x.table) table,
-      (λ place low. at_words x.table place (Plain (slice_index_or values place value.Nothing)) (table.items place value.Nothing low)),
+      (λ place low. (
+        (let s = table.size in let few = list_few (class_of t) class values (0 ∷ 0 ∷ x.table) table in let all = words_of_class (class_of t) class values in let fit = items_fit (class_of t) class in omega (arith, s, few, all, fit, low)),
+        at_words x.table place (Plain (slice_index_or values place value.Nothing)) (table.items place value.Nothing low),
+      )),
     )
 
 -- one without a table has none
@@ -130,7 +135,7 @@ between_looks o closed n part opened looks = looks_append part (Version o opened
 pub between_stops : (o closed n : ℕ) (part : List Act) (opened : ℕ) → (opened % 2 ≢ 0) ⊎ (closed ≢ opened) → StopsAtVersion o opened closed (between_acts o closed n part opened)
 between_stops o closed n part opened why = record { newer = []; mid = ReadCounter n ∷ part; rest = []; is = refl; moved = why }
 
-pub between_shows : (k : Shape) (o closed n : ℕ) (part : List Act) (opened : ℕ) (index : ℤ) (found : Option Value) → closed ≡ opened → opened % 2 ≡ 0 → ((x : ContainerWords) → Agrees k o part x → IsItemNamed k index found x) → ShowsNamed k o index found n (between_acts o closed n part opened)
+pub between_shows : (k : Shape) (o closed n : ℕ) (part : List Act) (opened : ℕ) (index : ℤ) (found : Option Value) → closed ≡ opened → opened % 2 ≡ 0 → ShowsRead k o part (IsItemNamed k index found) → ShowsNamed k o index found n (between_acts o closed n part opened)
 between_shows k o closed n part opened index found same even shows = record {
   mid = ReadCounter n ∷ part;
   between = record { version = opened; even = even; newer = []; rest = []; is = λ d. Version o (same d) ∷ ((ReadCounter n ∷ part) ++ Version o opened ∷ []) };
@@ -146,7 +151,7 @@ between_shows k o closed n part opened index found same even shows = record {
     none = refl;
     none_between = refl;
   };
-  shows = λ x g. shows x (agrees_older k o x (ReadCounter n ∷ []) part g);
+  shows = λ x box g. shows x box (read_older k o x box (ReadCounter n ∷ []) part g);
 }
 
 pub get_shown : (v w : View) (o : ℕ) (index : ℤ) (found : Option Value) (n : ℕ) (part : List Act) → MayAsk w o n → w.log ≡ part ++ v.log → kind_in w.shape.starts o ≡ kind.List → ShowsNamed w.shape o index found n part → IsShown w (call.List o (list.Get index)) (item_reply found) n
@@ -157,7 +162,7 @@ get_shown v w o index found n part ask own is s =
       mid = s.mid;
       between = between_own o s.mid part v.log w.log own s.between;
       stamp = s.counted;
-      answers = λ x stored is_kind stands agrees. get_replied stored o index found (s.shows x agrees (state_at stored o) (is_kind ∙ is) stands);
+      answers = λ x box stored is_kind stands agrees boxes. get_replied stored o index found (s.shows x box (agrees, boxes) (state_at stored o) (is_kind ∙ is) stands);
     } in
     looks_are_shown w called o (item_reply found) n ask plain.reads plain.cursor plain.cause (plain.replied (item_reply found) refl) looked
 
@@ -173,5 +178,5 @@ get_held v u o index found n loaded left low mine is =
     held_shown v u n loaded left called (item_reply found) plain.reads plain.cursor right (λ stored. plain.cause stored (ReadCounter n ∷ u.log) n)
 
 -- what such a pass reads
-pub reads_held : (k : Shape) (o : ℕ) (index : ℤ) (found : Option Value) (p q : Pass) → Reads k o (IsItemNamed k index found) p q → o < container_count k → kind_in (view p).shape.starts o ≡ kind.List → ∥ IsReachable (view p) ∥₁ → has_lock o (view p).log ≡ true → Represents k.texts (held_words o (view p)) (known_state o (view p)) → found ≡ item_named (list_of (known_state o (view p)).content) index
-reads_held k o index found p q r low is possible mine stands = r.3 (held_words o (view p)) (r.4 o low mine) (known_state o (view p)) (ap kind_of (list_content (view p) o possible mine is)) stands
+pub reads_held : (k : Shape) (o : ℕ) (index : ℤ) (found : Option Value) (p q : Pass) → Reads k o (IsItemNamed k index found) p q → (view p).shape ≡ k → o < container_count k → kind_in (view p).shape.starts o ≡ kind.List → has_lock o (view p).log ≡ true → Represents k.texts (held_unboxed o (view p)) (known_state o (view p)) → found ≡ item_named (list_of (known_state o (view p)).content) index
+reads_held k o index found p q r shape low is mine stands = held_shows k o (IsItemNamed k index found) p q r shape low mine (known_state o (view p)) (ap kind_of (list_content (view p) o p.possible mine is)) stands

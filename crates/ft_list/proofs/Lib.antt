@@ -1,6 +1,8 @@
-pub mod Cares
-pub mod PutItems
+pub mod Written
 pub mod Room
+pub mod Cares
+pub mod ItemValues
+pub mod PutItems
 pub mod FinishedWrites
 pub mod Commits
 pub mod ItemWordsPut
@@ -10,6 +12,7 @@ pub mod LookRounds
 pub mod ListCallFacts
 pub mod Asking
 pub mod Raising
+pub mod ValueReads
 pub mod Indexes
 pub mod ValueLists
 pub mod ListMidst
@@ -20,6 +23,7 @@ pub mod Both
 pub mod Filling
 pub mod Wanted
 pub mod GrownLists
+pub mod Rooted
 pub mod GrowWrites
 pub mod Additions
 pub mod Emptying

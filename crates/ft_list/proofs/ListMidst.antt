@@ -21,7 +21,7 @@ use Rattle.ft_trace.specs.declared.Shape.{Shape}
 use Rattle.ft_trace.specs.declared.View.{View}
 use Rattle.ft_trace.specs.Acts.{has_lock, stage, debt, view_after, shown}
 use Rattle.ft_trace.specs.Addresses.{container_count}
-use Rattle.ft_trace.specs.Holds.{held_words, known_state}
+use Rattle.ft_trace.specs.Holds.{held_unboxed, known_state}
 use Rattle.ft_trace.specs.Traces.{IsReachable}
 use Rattle.ft_trace.specs.Pictures.{root_in}
 use Rattle.ft_trace.specs.ContainerStates.{kind_in, changes, reply_in}
@@ -46,6 +46,8 @@ use Rattle.ft_list.proofs.Commits.{list_is}
 use Rattle.ft_list.proofs.Lists.{content_of}
 use Rattle.ft_list.proofs.WholeListWrites.{has_before}
 use Rattle.ft_list.proofs.Raising.{raised, and_false}
+use Rattle.ft_trace.specs.Boxes.{IsDoneWithBoxes, references_held}
+use Rattle.ft_bank.specs.SameBoxes.{SameReferences}
 
 -- ---- before the call
 
@@ -59,6 +61,7 @@ may_write b p o m low is mine left =
       even = m.inside.1.still.even;
       stands = making_stands b p (shape_of b).texts o m (ap (λ (k : Shape). k.texts) same) (subst (λ (k : Shape). o < container_count k) (sym same) low) mine;
       owes = m.inside.1.still.owes;
+      boxes = subst (λ (z : Shape). IsDoneWithBoxes z (view p).log) same m.inside.1.still.boxes;
       left = left;
     }
 
@@ -81,6 +84,7 @@ pub tables_answered : (called : Call) (said : Reply) (n : ℕ) (v w : View) → 
 tables_answered called said n v w x = record {
   hands = λ t. ap (λ (z : View). stage t z.log) x.answered ∙ x.loaded.work.hands t;
   debt = ap (λ (z : View). debt z.log) x.answered ∙ x.loaded.work.debt;
+  references = λ b. ap (λ (z : View). references_held z.shape b z.log) x.answered ∙ x.loaded.boxes.references b;
 }
 
 -- ---- the call as one made
@@ -105,13 +109,14 @@ module _ (k : Shape) (o : ℕ) (lc : ListCall) (said : Reply) (v u w : View) (sh
   is_list : (known_state o u).content ≡ content.List (known_items o u)
   is_list = content_of k o u shape possible may
 
-  pub wrote_as : (n : ℕ) (news : List Value) → Changes o lc said (known_items o u) news u → Wrote called said n u w → root_in (held_words o w) ≡ root_in (held_words o u) → MadeAs called said (record { number = n; wrote = true }) v w
-  wrote_as n news c x root =
+  pub wrote_as : (n : ℕ) (news : List Value) → Changes o lc said (known_items o u) news u → Wrote called said n u w → root_in (held_unboxed o w) ≡ root_in (held_unboxed o u) → SameReferences u w → MadeAs called said (record { number = n; wrote = true }) v w
+  wrote_as n news c x root references =
       let at : o ≡ changes called = sym (ap (λ (b : Bool). unwrap_or (if b then Some o else None) 0) c.write.changing) in
       written called said n v w (λ d. c.write.changing d && not (c.write.raises d))
       (replied_loaded v u loaded called said (reply_changes o lc said (known_items o u) u inside may.locked is_list news c))
       (loaded_wrote v u loaded called said n w x)
-      (subst (λ (p : ℕ). root_in (held_words p w) ≡ root_in (held_words p v)) at (root ∙ ap root_in (loaded_held v u o loaded)))
+      (subst (λ (p : ℕ). root_in (held_unboxed p w) ≡ root_in (held_unboxed p v)) at (root ∙ ap root_in (loaded_held v u o loaded)))
+      (λ b. references b ∙ loaded.boxes.references b)
 
   pub raised_as : (stamp : Stamp) (part : List Act) → u.log ≡ part ++ v.log → Raises o lc said (known_items o u) → stamp.wrote ≡ false → Answered called said stamp.number u w → MadeAs called said stamp v w
   raised_as stamp part log r wrote x =

@@ -18,7 +18,7 @@ use Rattle.ft_trace.specs.ContainerStates.{ContainerState, kind_in}
 use Rattle.ft_trace.specs.Pictures.{ContainerWords, root_in, Represents, item_field}
 use Rattle.ft_trace.specs.Kinds.{rows, version_at}
 use Rattle.ft_trace.specs.OddVersions.{Shut}
-use Rattle.ft_trace.specs.Holds.{held_words, known_state}
+use Rattle.ft_trace.specs.Holds.{held_unboxed, known_state}
 use Rattle.ft_trace.specs.Traces.{IsReachable}
 use Rattle.ft_trace.proofs.Clearing.{held_shut}
 use Rattle.ft_trace.proofs.Known.{kind_known, class_known}
@@ -29,6 +29,7 @@ use Rattle.ft_bank.proofs.KnownAfterWrites.{loaded_held, work_knows}
 use Rattle.ft_list.specs.ListItemWrites.{known_items}
 use Rattle.ft_list.specs.ListWrites.{MayWriteList}
 use Rattle.ft_search.specs.OneEntryWrites.{HasTable}
+use Rattle.ft_search.proofs.Puts.{shut_reads, done_then}
 
 -- 1 for a list
 list_code : Kind → ℕ
@@ -50,39 +51,39 @@ list_content v o possible mine is =
     as_list (known_state o v).content (∥∥₁_elim {P = list_code (kind_of (known_state o v).content) ≡ 1} possible (ℕ_set _ _) (λ p. ap list_code (kind_known v o mine p ∙ is)))
 
 -- its items and its table
-pub list_known : (texts : List ℕ) (v : View) (o t : ℕ) → (known_state o v).content ≡ content.List (known_items o v) → Represents texts (held_words o v) (known_state o v) → root_in (held_words o v) ≡ suc t → IsListWords (held_words o v).block (0 ∷ 0 ∷ (held_words o v).table) (Some (class_of t)) (known_items o v) × ((known_state o v).table.keys ≡ [] → (known_state o v).table ≡ record { class = Some (class_of t); fill = 0; keys = [] })
+pub list_known : (texts : List ℕ) (v : View) (o t : ℕ) → (known_state o v).content ≡ content.List (known_items o v) → Represents texts (held_unboxed o v) (known_state o v) → root_in (held_unboxed o v) ≡ suc t → IsListWords (held_unboxed o v).block (0 ∷ 0 ∷ (held_unboxed o v).table) (Some (class_of t)) (known_items o v) × ((known_state o v).table.keys ≡ [] → (known_state o v).table ≡ record { class = Some (class_of t); fill = 0; keys = [] })
 list_known texts v o t is stands names =
-    let class = class_known texts (held_words o v) (known_state o v) t stands names in
-    let says : IsListWords (held_words o v).block (0 ∷ 0 ∷ (held_words o v).table) (known_state o v).table.class (known_items o v) × ((known_state o v).table.fill ≡ 0) = subst (λ (z : Content). StandsAs texts (held_words o v).block (0 ∷ 0 ∷ (held_words o v).table) (known_state o v).table z) is stands in
+    let class = class_known texts (held_unboxed o v) (known_state o v) t stands names in
+    let says : IsListWords (held_unboxed o v).block (0 ∷ 0 ∷ (held_unboxed o v).table) (known_state o v).table.class (known_items o v) × ((known_state o v).table.fill ≡ 0) = subst (λ (z : Content). StandsAs texts (held_unboxed o v).block (0 ∷ 0 ∷ (held_unboxed o v).table) (known_state o v).table z) is stands in
     let fill = says.1 in (
-      subst (λ (z : Option ℕ). IsListWords (held_words o v).block (0 ∷ 0 ∷ (held_words o v).table) z (known_items o v)) class says.0,
+      subst (λ (z : Option ℕ). IsListWords (held_unboxed o v).block (0 ∷ 0 ∷ (held_unboxed o v).table) z (known_items o v)) class says.0,
       (λ none d. record { class = class d; fill = fill d; keys = none d }),
     )
 
 -- no version of its items is odd
-pub list_shut : (v : View) (o t : ℕ) → ∥ IsReachable v ∥₁ → o < container_count v.shape → has_lock o v.log ≡ true → is_writing o v.log ≡ false → kind_in v.shape.starts o ≡ kind.List → root_in (held_words o v) ≡ suc t → (p : ℕ) → p < slots (class_of t) → item_field (held_words o v).table p 0 % 2 ≡ 0
+pub list_shut : (v : View) (o t : ℕ) → ∥ IsReachable v ∥₁ → o < container_count v.shape → has_lock o v.log ≡ true → is_writing o v.log ≡ false → kind_in v.shape.starts o ≡ kind.List → root_in (held_unboxed o v) ≡ suc t → (p : ℕ) → p < slots (class_of t) → item_field (held_unboxed o v).table p 0 % 2 ≡ 0
 list_shut v o t possible low mine even is names p row =
-    ∥∥₁_elim {P = item_field (held_words o v).table p 0 % 2 ≡ 0} possible (ℕ_set _ _)
-    (λ (x : IsReachable v). subst (λ (z : Kind). Shut (version_at z (class_of t)) (rows z (class_of t)) (held_words o v).table) is (held_shut v o t low x mine even names) p row)
+    ∥∥₁_elim {P = item_field (held_unboxed o v).table p 0 % 2 ≡ 0} possible (ℕ_set _ _)
+    (λ (x : IsReachable v). subst (λ (z : Kind). Shut (version_at z (class_of t)) (rows z (class_of t)) (held_unboxed o v).table) is (shut_reads v o t names (held_shut v o t low x mine even names)) p row)
 
 -- how many items the block counts
-pub list_counts : (texts : List ℕ) (v : View) (o : ℕ) → (known_state o v).content ≡ content.List (known_items o v) → Represents texts (held_words o v) (known_state o v) → slice_index (held_words o v).block 1 ≡ length (known_items o v)
-list_counts texts v o is stands = (head_of texts (held_words o v).block (0 ∷ 0 ∷ (held_words o v).table) (known_state o v).table (known_state o v).content stands).count_is ∙ ap length_of is
+pub list_counts : (texts : List ℕ) (v : View) (o : ℕ) → (known_state o v).content ≡ content.List (known_items o v) → Represents texts (held_unboxed o v) (known_state o v) → slice_index (held_unboxed o v).block 1 ≡ length (known_items o v)
+list_counts texts v o is stands = (head_of texts (held_unboxed o v).block (0 ∷ 0 ∷ (held_unboxed o v).table) (known_state o v).table (known_state o v).content stands).count_is ∙ ap length_of is
 
 -- a list that isn't empty has a table
 no_root : (block words : List ℕ) (class : Option ℕ) (values : List Value) → IsListWords block words class values → slice_index block 0 ≡ 0 → length values ≡ 0
 no_root block words None values says none = ap length says.table
 no_root block words (Some class) values says none = absurd (let r = says.head.root.1.2 in omega (arith, none, r))
 
-pub list_rooted : (texts : List ℕ) (v : View) (o : ℕ) → (known_state o v).content ≡ content.List (known_items o v) → Represents texts (held_words o v) (known_state o v) → length (known_items o v) ≢ 0 → root_in (held_words o v) ≢ 0
+pub list_rooted : (texts : List ℕ) (v : View) (o : ℕ) → (known_state o v).content ≡ content.List (known_items o v) → Represents texts (held_unboxed o v) (known_state o v) → length (known_items o v) ≢ 0 → root_in (held_unboxed o v) ≢ 0
 list_rooted texts v o is stands some none =
-    let says : IsListWords (held_words o v).block (0 ∷ 0 ∷ (held_words o v).table) (known_state o v).table.class (known_items o v) × ((known_state o v).table.fill ≡ 0) = subst (λ (z : Content). StandsAs texts (held_words o v).block (0 ∷ 0 ∷ (held_words o v).table) (known_state o v).table z) is stands in
-    some (no_root (held_words o v).block (0 ∷ 0 ∷ (held_words o v).table) (known_state o v).table.class (known_items o v) says.0 none)
+    let says : IsListWords (held_unboxed o v).block (0 ∷ 0 ∷ (held_unboxed o v).table) (known_state o v).table.class (known_items o v) × ((known_state o v).table.fill ≡ 0) = subst (λ (z : Content). StandsAs texts (held_unboxed o v).block (0 ∷ 0 ∷ (held_unboxed o v).table) (known_state o v).table z) is stands in
+    some (no_root (held_unboxed o v).block (0 ∷ 0 ∷ (held_unboxed o v).table) (known_state o v).table.class (known_items o v) says.0 none)
 
 -- loads leave it
-pub may_loaded : (k : Shape) (o : ℕ) (v w : View) → OnlyLoaded v w → MayWriteList k o v → MayWriteList k o w
-may_loaded k o v w only may =
-    let h = loaded_held v w o only in
+pub may_loaded : (k : Shape) (o : ℕ) (v w : View) → v.shape ≡ k → OnlyLoaded v w → MayWriteList k o v → MayWriteList k o w
+may_loaded k o v w shape only may =
+    let h = only.unboxed o (subst (λ (z : Shape). o < container_count z) (sym shape) may.container) may.locked in
     let n = work_knows v w o only.work in
     record {
       container = may.container;
@@ -91,6 +92,7 @@ may_loaded k o v w only may =
       even = λ p. only.work.pass.writes p ∙ may.even p;
       stands = subst (λ (z : ContainerWords × ContainerState). Represents k.texts z.0 z.1) (λ d. (sym h d, sym n d)) may.stands;
       owes = only.work.owes ∙ may.owes;
+      boxes = done_then k v w shape only.work.pass.shape only.boxes.references only.boxes.made may.boxes;
       left = subst (λ (z : ℕ). 0 < z) (sym only.work.left) may.left;
     }
 

@@ -21,7 +21,7 @@ use Rattle.ft_trace.specs.declared.Shape.{Shape}
 use Rattle.ft_trace.specs.declared.View.{View}
 use Rattle.ft_trace.specs.Acts.{has_lock}
 use Rattle.ft_trace.specs.Addresses.{container_count}
-use Rattle.ft_trace.specs.Holds.{held_words, known_state}
+use Rattle.ft_trace.specs.Holds.{known_state}
 use Rattle.ft_bank.specs.declared.pass.Pass.{Pass}
 use Rattle.ft_bank.specs.Passes.{view}
 use Rattle.ft_bank.specs.Whole.{OnlyLoaded}
@@ -39,6 +39,7 @@ use Rattle.ft_list.proofs.Indexes.{items_counted}
 use Rattle.ft_reads.proofs.Agreeing.{reads_none, reads_map, reads_then, reads_loaded}
 use Rattle.ft_list.proofs.Lists.{content_of, may_loaded}
 use Rattle.ft_list.proofs.ValueLists.{NoneBefore, has_first}
+use Rattle.ft_list.proofs.ValueReads.{held_shows}
 
 module _ (k : Shape) (o : ℕ) where
   -- the block was read, which says how many items there are
@@ -70,20 +71,20 @@ EqualYet value count place equal items = (count ≡ length items) × (equal ≡ 
 module _ (k : Shape) (o : ℕ) (holds : List Value → Type 0) (p q : Pass) (r : Reads k o (IsOfItems k holds) p q) (shape : (view p).shape ≡ k) (may : MayWriteList k o (view p)) where
   -- it holds of the items that the pass knows
   pub items_hold : holds (known_items o (view p))
-  items_hold = r.3 (held_words o (view p)) (r.4 o may.container may.locked) (known_state o (view p)) (ap kind_of (content_of k o (view p) shape p.possible may)) may.stands
+  items_hold = held_shows k o (IsOfItems k holds) p q r shape may.container may.locked (known_state o (view p)) (ap kind_of (content_of k o (view p) shape p.possible may)) may.stands
 
   pub scan_loaded : OnlyLoaded (view p) (view q)
   scan_loaded = reads_loaded k o (IsOfItems k holds) p q r
 
   pub scan_may : MayWriteList k o (view q)
-  scan_may = may_loaded k o (view p) (view q) scan_loaded may
+  scan_may = may_loaded k o (view p) (view q) shape scan_loaded may
 
   pub scan_log : (view q).log ≡ r.0 ++ (view p).log
   scan_log = did_log r.0 p q r.2
 
 -- the item at a place, by such a pass
 pub item_held : (k : Shape) (o place : ℕ) (found : Option Value) (p q : Pass) → Reads k o (IsItemAt k place found) p q → (view p).shape ≡ k → MayWriteList k o (view p) → place < length (known_items o (view p)) → found ≡ Some (slice_index_or (known_items o (view p)) place Nothing)
-item_held k o place found p q r shape may low = r.3 (held_words o (view p)) (r.4 o may.container may.locked) (known_state o (view p)) (ap kind_of (content_of k o (view p) shape p.possible may)) may.stands low
+item_held k o place found p q r shape may low = held_shows k o (IsItemAt k place found) p q r shape may.container may.locked (known_state o (view p)) (ap kind_of (content_of k o (view p) shape p.possible may)) may.stands low
 
 -- ---- what calls reply that search
 

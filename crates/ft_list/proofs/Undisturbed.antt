@@ -1,6 +1,5 @@
 -- While a pass has the floor, no item that it loads without the lock changes.
-use Rattle.std.proofs.Common.{◌≡◌, ◌<◌, ◌%◌, ℕ, suc, List, ◌∷◌, refl, sym, ap, ◌∙◌, subst, ⊎_elim}
-use Rattle.std.specs.Prelude.{◌⊎◌}
+use Rattle.std.proofs.Common.{◌≡◌, ◌<◌, ◌%◌, ℕ, suc, refl, sym, ap, ◌∙◌, subst, ⊎_elim}
 use Rattle.ft_model.specs.declared.script.Kind.{Kind}
 use Rattle.ft_model.specs.declared.script.Kind.TheVariants as kind
 use Rattle.ft_trace.specs.declared.Act.TheVariants.{ReadRoot, ReadTable, Version}

@@ -10,7 +10,7 @@ use Rattle.ft_model.specs.TableUses.{no_table, list_takes, outgrows_list}
 use Rattle.ft_layout.specs.Containers.{IsListWords, StandsAs}
 use Rattle.ft_trace.specs.declared.Shape.{Shape}
 use Rattle.ft_trace.specs.declared.View.{View}
-use Rattle.ft_trace.specs.Holds.{held_words, known_state}
+use Rattle.ft_trace.specs.Holds.{held_unboxed, known_state}
 use Rattle.ft_bank.specs.declared.table.Table.{Table}
 use Rattle.ft_bank.specs.TableNames.{table_id}
 use Rattle.ft_bank.proofs.TableAddresses.{class_is}
@@ -79,8 +79,8 @@ no_class block words (Some class) values says none = absurd (let r = says.head.r
 
 pub list_use : (k : Shape) (o : ℕ) (old : Option Table) (v : View) → KnowsList k o old v → (known_state o v).content ≡ content.List (known_items o v) → (known_state o v).table.keys ≡ [] → (known_state o v).table ≡ list_use_of old
 list_use k o None v list is keys =
-    let says : IsListWords (held_words o v).block (0 ∷ 0 ∷ (held_words o v).table) (known_state o v).table.class (known_items o v) × ((known_state o v).table.fill ≡ 0) = subst (λ (z : Content). StandsAs k.texts (held_words o v).block (0 ∷ 0 ∷ (held_words o v).table) (known_state o v).table z) is list.stands in
-    let none = no_class (held_words o v).block (0 ∷ 0 ∷ (held_words o v).table) (known_state o v).table.class (known_items o v) says.0 list.root in
+    let says : IsListWords (held_unboxed o v).block (0 ∷ 0 ∷ (held_unboxed o v).table) (known_state o v).table.class (known_items o v) × ((known_state o v).table.fill ≡ 0) = subst (λ (z : Content). StandsAs k.texts (held_unboxed o v).block (0 ∷ 0 ∷ (held_unboxed o v).table) (known_state o v).table z) is list.stands in
+    let none = no_class (held_unboxed o v).block (0 ∷ 0 ∷ (held_unboxed o v).table) (known_state o v).table.class (known_items o v) says.0 list.root in
     λ d. record { class = none d; fill = says.1 d; keys = keys d }
 list_use k o (Some t) v list is keys =
     (list_known k.texts v o (table_id t) is list.stands list.root).1 keys

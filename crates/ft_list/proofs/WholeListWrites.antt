@@ -19,12 +19,12 @@ use Rattle.ft_trace.specs.Addresses.{container_count, class_of}
 use Rattle.ft_trace.specs.Acts.{has_lock, is_writing, has_emptied, owes, view_after}
 use Rattle.ft_trace.specs.ContainerStates.{ContainerState, changes, kinds_in}
 use Rattle.ft_trace.specs.Pictures.{root_in}
-use Rattle.ft_trace.specs.Holds.{held_words, known_state}
+use Rattle.ft_trace.specs.Holds.{held_unboxed, known_state}
 use Rattle.ft_trace.proofs.Cases.{hit}
 use Rattle.ft_bank.specs.declared.table.Table.{Table}
 use Rattle.ft_bank.specs.TableNames.{table_id}
 use Rattle.ft_bank.specs.WriteSteps.{MayHave}
-use Rattle.ft_bank.specs.Whole.{OnlyPut, EndsWrite, Wrote}
+use Rattle.ft_bank.specs.Whole.{OnlyWritten, EndsWrite, Wrote}
 use Rattle.ft_bank.proofs.KnownAfterWrites.{work_knows, plain_write}
 use Rattle.ft_list.specs.ListItemWrites.{WritesList, MayFinishItems}
 use Rattle.ft_list.specs.ListWrites.{MayWriteList, IsListWrite, Changes, Grows}
@@ -74,7 +74,7 @@ module _ (v u : View) (same_known : (p : ℕ) → known_state p u ≡ known_stat
 
 -- ---- a write that leaves the list's table
 
-module _ (k : Shape) (o : ℕ) (table : Table) (v s u : View) (f : ℕ) (may : MayWriteList k o v) (begun : s ≡ view_after (StartWrite o f) v) (puts : OnlyPut o s u) where
+module _ (k : Shape) (o : ℕ) (table : Table) (v s u : View) (f : ℕ) (may : MayWriteList k o v) (begun : s ≡ view_after (StartWrite o f) v) (puts : OnlyWritten o s u) where
   same_known : (p : ℕ) → known_state p u ≡ known_state p v
   same_known p = work_knows s u p puts.work ∙ ap (λ (z : View). known_state p z) begun
 
@@ -93,7 +93,7 @@ module _ (k : Shape) (o : ℕ) (table : Table) (v s u : View) (f : ℕ) (may : M
     table = λ stored has. call_is.table stored (has_before v u same_known same_shape locks_on stored has);
   }
 
-  pub finishing : (first past : ℕ) (lc : ListCall) (called : Call) (said : Reply) (values news : List Value) → called ≡ call.List o lc → Changes o lc said values news v → (known_state o v).content ≡ content.List values → (known_state o v).table ≡ record { class = Some (class_of (table_id table)); fill = 0; keys = [] } → WritesList k o table u → u.shape ≡ k → Changed (class_of (table_id table)) values news first past (held_words o u).table → IsBlock (held_words o u).block (Some (class_of (table_id table))) (length news) 0 0
+  pub finishing : (first past : ℕ) (lc : ListCall) (called : Call) (said : Reply) (values news : List Value) → called ≡ call.List o lc → Changes o lc said values news v → (known_state o v).content ≡ content.List values → (known_state o v).table ≡ record { class = Some (class_of (table_id table)); fill = 0; keys = [] } → WritesList k o table u → u.shape ≡ k → Changed (class_of (table_id table)) values news first past (held_unboxed o u).table → IsBlock (held_unboxed o u).block (Some (class_of (table_id table))) (length news) 0 0
       → MayFinishItems o table called said first past u
   finishing first past lc called said values news is call_is is_list kept list shape changing head =
       let none : owes u.log ≡ 0 = puts.work.owes ∙ (ap (λ (z : View). owes z.log) begun ∙ may.owes) in
@@ -110,18 +110,18 @@ module _ (k : Shape) (o : ℕ) (table : Table) (v s u : View) (f : ℕ) (may : M
       (puts.work.emptied o ∙ (ap (λ (z : View). has_emptied o z.log) begun ∙ hit o false (has_emptied o v.log)))
       head)
 
-  pub list_wrote : (lc : ListCall) (called : Call) (said : Reply) (number : ℕ) (w : View) → called ≡ call.List o lc → is_changing_list lc ≡ true → EndsWrite called said number u w → root_in (held_words o u) ≡ root_in (held_words o v) → Wrote called said number v w
+  pub list_wrote : (lc : ListCall) (called : Call) (said : Reply) (number : ℕ) (w : View) → called ≡ call.List o lc → is_changing_list lc ≡ true → EndsWrite called said number u w → root_in (held_unboxed o u) ≡ root_in (held_unboxed o v) → Wrote called said number v w
   list_wrote lc called said number w is changing ends root =
       let at : o ≡ changes called = sym (ap changes is ∙ ap (λ (b : Bool). unwrap_or (if b then Some o else None) 0) changing) in
       plain_write called said number f v s u w
       (subst (λ (n : ℕ). s ≡ view_after (StartWrite n f) v) at begun)
       (subst (λ (n : ℕ). is_writing n v.log ≡ false) at (may.even o))
-      (subst (λ (n : ℕ). OnlyPut n s u) at puts)
+      (subst (λ (n : ℕ). OnlyWritten n s u) at puts)
       ends
-      (subst (λ (n : ℕ). root_in (held_words n u) ≡ root_in (held_words n v)) at root)
+      (subst (λ (n : ℕ). root_in (held_unboxed n u) ≡ root_in (held_unboxed n v)) at root)
 
   -- the root stays
-  pub root_wrote : (lc : ListCall) (called : Call) (said : Reply) (number : ℕ) (w : View) → called ≡ call.List o lc → is_changing_list lc ≡ true → EndsWrite called said number u w → root_in (held_words o u) ≡ root_in (held_words o v) → root_in (held_words o w) ≡ root_in (held_words o v)
+  pub root_wrote : (lc : ListCall) (called : Call) (said : Reply) (number : ℕ) (w : View) → called ≡ call.List o lc → is_changing_list lc ≡ true → EndsWrite called said number u w → root_in (held_unboxed o u) ≡ root_in (held_unboxed o v) → root_in (held_unboxed o w) ≡ root_in (held_unboxed o v)
   root_wrote lc called said number w is changing ends root =
       let at : changes called ≡ o = ap changes is ∙ ap (λ (b : Bool). unwrap_or (if b then Some o else None) 0) changing in
-      subst (λ (n : ℕ). root_in (held_words n w) ≡ root_in (held_words n u)) at ends.root ∙ root
+      subst (λ (n : ℕ). root_in (held_unboxed n w) ≡ root_in (held_unboxed n u)) at ends.root ∙ root

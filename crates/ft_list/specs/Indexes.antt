@@ -1,5 +1,5 @@
 -- Items of a list by their indexes, negative ones from the end too, and what loads of its words show of them.
-use Rattle.std.specs.Prelude.{◌≡◌, ℕ, ℤ, pos, negsuc, suc, ◌<◌, List, length, option_map, Option, Some, slice_index_or}
+use Rattle.std.specs.Prelude.{◌≡◌, ℕ, ℤ, pos, negsuc, suc, ◌<◌, ◌≤◌, List, length, option_map, Option, Some, slice_index_or}
 use Rattle.ft_layout.specs.declared.slot.Stored.TheVariants.{Plain}
 use Rattle.ft_layout.specs.Words.{IsStored}
 use Rattle.ft_model.specs.declared.call.Call.TheVariants as call
@@ -13,12 +13,13 @@ use Rattle.ft_trace.specs.declared.Act.{Act}
 use Rattle.ft_trace.specs.declared.Act.TheVariants.{ReadCounter}
 use Rattle.ft_trace.specs.declared.Shape.{Shape}
 use Rattle.ft_trace.specs.declared.View.{View}
-use Rattle.ft_trace.specs.LoggedReads.{Agrees, Among, Between}
-use Rattle.ft_trace.specs.Pictures.{ContainerWords, root_in, item_field, Represents}
+use Rattle.ft_trace.specs.LoggedReads.{Among, Between}
+use Rattle.ft_trace.specs.Pictures.{ContainerWords, root_in, item_field, item_offset, Represents}
 use Rattle.ft_trace.specs.ContainerStates.{ContainerState}
 use Rattle.ft_bank.specs.LastLoads.{IsLastBetween}
 use Rattle.ft_section.specs.declared.answers.Look.{Look}
 use Rattle.ft_search.specs.Lengths.{StopsAtVersion, IsGlanceOf}
+use Rattle.ft_reads.specs.Reads.{ShowsRead}
 use Rattle.ft_list.specs.declared.gets.AtIndex.{AtIndex}
 use Rattle.ft_list.specs.declared.gets.AtIndex.TheVariants.{Found, Contended}
 use Rattle.ft_list.specs.ItemLooks.{IsGetOf}
@@ -28,10 +29,10 @@ abbrev pub item_named : List Value → ℤ → Option Value
 item_named values index =
     option_map (λ place. slice_index_or values place value.Nothing) (index_in (length values) index)
 
--- where the root names the table t, and the item at the place is a value, it is this
+-- where the root names the table t, which has the place, and the item there is a value, it is this
 abbrev pub IsItemValue : ℕ → ℕ → Option Value → ContainerWords → Type 0
 IsItemValue t place found x =
-    root_in x ≡ suc t → (value : Value)
+    root_in x ≡ suc t → item_offset place 3 ≤ length x.table → (value : Value)
     → IsStored (item_field x.table place 1) (item_field x.table place 2) (Plain value)
     → found ≡ Some value
 
@@ -55,7 +56,7 @@ pub record ShowsNamed (k : Shape) (o : ℕ) (index : ℤ) (found : Option Value)
   pub between : Between part o mid
   pub counted : Among (ReadCounter n) mid
   pub last : IsLastBetween o n part
-  pub shows : (x : ContainerWords) → Agrees k o mid x → IsItemNamed k index found x
+  pub shows : ShowsRead k o mid (IsItemNamed k index found)
 
 -- what these loads show of the list
 abbrev pub ShowsBetween : Shape → ℕ → ℤ → List Act → AtIndex → Type 0

@@ -1,5 +1,5 @@
 -- What a look-up of one item without the lock loads, and what its log then shows. (profile)
-use Rattle.std.specs.Prelude.{◌≡◌, ◌≢◌, ◌⊎◌, ℕ, suc, pos, false, ◌%◌, ◌<◌, ◌≤◌, List, [], ◌∷◌, ◌++◌}
+use Rattle.std.specs.Prelude.{◌≡◌, ◌≢◌, ◌⊎◌, ℕ, suc, pos, Bool, false, ◌%◌, ◌<◌, ◌≤◌, List, [], ◌∷◌, ◌++◌}
 use Rattle.ft_model.specs.declared.call.Call.TheVariants as call
 use Rattle.ft_model.specs.declared.call.ListCall.TheVariants as list
 use Rattle.ft_trace.specs.declared.Act.{Act}
@@ -11,6 +11,7 @@ use Rattle.ft_trace.specs.Pictures.{item_offset}
 use Rattle.ft_trace.specs.LoggedReads.{Among}
 use Rattle.ft_trace.specs.LoggedLookUps.{Inner, LookUpWindow, Bare, ItemHit, ItemPast}
 use Rattle.ft_trace.specs.LookReplies.{IsItemRead, item_reply}
+use Rattle.ft_trace.specs.Traces.{IsReachable}
 use Rattle.ft_bank.specs.declared.pass.Pass.{Pass}
 use Rattle.ft_bank.specs.Answered.{Answered}
 use Rattle.ft_bank.specs.LastLoads.{IsLastLoad}
@@ -18,6 +19,7 @@ use Rattle.ft_bank.specs.Passes.{view}
 use Rattle.ft_bank.specs.Reads.{IsShown}
 use Rattle.ft_bank.specs.Whole.{OnlyLoaded}
 use Rattle.ft_bank.specs.Series.{DidAll}
+use Rattle.ft_search.specs.Boxed.{box_acts}
 use Rattle.ft_search.specs.KeyLooks.{AreLooks, EndsLook, StopsAtContainer}
 use Rattle.ft_search.specs.Rounds.{IsFresh}
 use Rattle.ft_section.specs.declared.answers.Look.{Look}
@@ -31,16 +33,20 @@ use Rattle.ft_list.specs.declared.looks.ItemRound.TheVariants.{Ended, Moved}
 use Rattle.ft_list.specs.declared.looks.SeenItem.{SeenItem}
 
 -- the loads of an item between two loads of its version, newest first
-abbrev pub item_acts : ℕ → ℕ → SeenItem → List Act
-item_acts t index seen =
+abbrev pub item_acts_as : Bool → ℕ → ℕ → SeenItem → List Act
+item_acts_as boxed t index seen =
     ReadTable t (item_offset index 0) seen.closed
     ∷ (ReadCounter seen.number
-    ∷ (ReadTable t (item_offset index 2) seen.payload
-    ∷ (ReadTable t (item_offset index 1) seen.kind
-    ∷ (ReadTable t (item_offset index 0) seen.opened ∷ []))))
+    ∷ (box_acts boxed seen.payload seen.value.kind seen.value.value
+    ++ (ReadTable t (item_offset index 2) seen.payload
+    ∷ (ReadTable t (item_offset index 1) seen.found_kind
+    ∷ (ReadTable t (item_offset index 0) seen.opened ∷ [])))))
+
+abbrev pub item_acts : ℕ → ℕ → SeenItem → List Act
+item_acts t index seen = item_acts_as seen.value.boxed t index seen
 
 -- The log shows what the item at this index was when the counter was n: between two loads of its version that found the
--- same even number these words of it were read.
+-- same even number its value was read as these, in its words or in the box that they name.
 pub record ShowsItem (o index kind payload n : ℕ) (log : List Act) : Type 0 where
   pub t : ℕ
   pub low : index < slots (class_of t)
@@ -77,17 +83,19 @@ ShowsFound k o index part log (Past n) = ShowsPast o index n log × IsLastLoad n
 ShowsFound k o index part log (Contended a b) = StopsItemLook o index a b part
 
 -- what these loads show once the root is read again and still names the table t
-abbrev pub ItemClosesAt : ℕ → ℕ → ℕ → List Act → LookedItem → Type 0
-ItemClosesAt o t index part (Item kind payload n) =
-    ((log : List Act) → LookUpWindow log o t part → ShowsItem o index kind payload n log) × IsLastLoad n part
-ItemClosesAt o t index part (Past n) =
+abbrev pub ItemClosesAt : Shape → ℕ → ℕ → ℕ → List Act → LookedItem → Type 0
+ItemClosesAt k o t index part (Item kind payload n) =
+    ((w : View) → w.shape ≡ k → ∥ IsReachable w ∥₁ → LookUpWindow w.log o t part
+    → ShowsItem o index kind payload n w.log)
+    × IsLastLoad n part
+ItemClosesAt k o t index part (Past n) =
     ((log : List Act) → LookUpWindow log o t part → ShowsPast o index n log) × IsLastLoad n part
-ItemClosesAt o t index part (Contended a b) = StopsAtItem t index a b part
+ItemClosesAt k o t index part (Contended a b) = StopsAtItem t index a b part
 
 -- a round over the table t, which the last read of the root named
 abbrev pub EndsItemTable : Shape → ℕ → ℕ → ℕ → Pass → Pass → ItemRound → Type 0
 EndsItemTable k o index t p q (Ended found) =
-    (part : List Act) × Inner part × DidAll (ReadRoot o (suc t) ∷ part) p q × ItemClosesAt o t index part found
+    (part : List Act) × Inner part × DidAll (ReadRoot o (suc t) ∷ part) p q × ItemClosesAt k o t index part found
 EndsItemTable k o index t p q (Moved r) =
     (part : List Act) × Inner part × DidAll (ReadRoot o r ∷ part) p q × (r ≢ suc t) × IsFresh k r (part ++ (view p).log)
 

@@ -17,22 +17,24 @@ use Rattle.ft_trace.specs.declared.Shape.{Shape}
 use Rattle.ft_trace.specs.declared.View.{View}
 use Rattle.ft_trace.specs.Addresses.{container_count, class_of, slots}
 use Rattle.ft_trace.specs.Acts.{has_lock, is_writing}
+use Rattle.ft_trace.specs.Boxes.{IsDoneWithBoxes}
 use Rattle.ft_trace.specs.ContainerStates.{state_at, kind_in, changes}
 use Rattle.ft_trace.specs.Pictures.{ContainerWords, root_in, item_offset, item_field}
 use Rattle.ft_trace.specs.ItemWords.{words_at, said_at}
-use Rattle.ft_trace.specs.Holds.{held_words, known_state}
+use Rattle.ft_trace.specs.Holds.{held_unboxed, known_state}
 use Rattle.ft_bank.specs.declared.table.Table.{Table}
 use Rattle.ft_bank.specs.TableNames.{table_id, IsTableIn}
 use Rattle.ft_bank.specs.WriteSteps.{MayHave, MayCommit}
 
--- The pass writes the list o, whose root names the table. (profile)
+-- The pass writes the list o, whose root names the table; it holds no reference for a box and makes none. (profile)
 pub record WritesList (k : Shape) (o : ℕ) (table : Table) (v : View) : Type 0 where
   pub container : o < container_count k
   pub kind : kind_in k.starts o ≡ kind.List
   pub table_in : IsTableIn k table
   pub locked : has_lock o v.log ≡ true
   pub odd : is_writing o v.log ≡ true
-  pub root : root_in (held_words o v) ≡ suc (table_id table)
+  pub root : root_in (held_unboxed o v) ≡ suc (table_id table)
+  pub boxes : IsDoneWithBoxes k v.log
 
 -- The words of a list once a word of an item is put. (profile)
 abbrev pub with_word : ContainerWords → ℕ → ℕ → ℕ → ContainerWords
@@ -107,5 +109,5 @@ pub record MayFinishItems
         content = content.List after;
         table = record { class = Some (class_of (table_id table)); fill = 0; keys = [] };
       }
-  pub head : IsBlock (held_words o v).block (Some (class_of (table_id table))) (length after) 0 0
-  pub changing : IsChanging (class_of (table_id table)) before after first past (held_words o v).table
+  pub head : IsBlock (held_unboxed o v).block (Some (class_of (table_id table))) (length after) 0 0
+  pub changing : IsChanging (class_of (table_id table)) before after first past (held_unboxed o v).table

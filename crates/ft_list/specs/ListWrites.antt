@@ -22,9 +22,10 @@ use Rattle.ft_trace.specs.Addresses.{container_count}
 use Rattle.ft_trace.specs.Acts.{has_lock, is_writing, owes}
 use Rattle.ft_trace.specs.FitCalls.{FitsListCall}
 use Rattle.ft_trace.specs.BegunSections.{HasLocksOf}
+use Rattle.ft_trace.specs.Boxes.{IsDoneWithBoxes}
 use Rattle.ft_trace.specs.ContainerStates.{kind_in}
 use Rattle.ft_trace.specs.Pictures.{Represents}
-use Rattle.ft_trace.specs.Holds.{held_words, known_state}
+use Rattle.ft_trace.specs.Holds.{held_unboxed, known_state}
 use Rattle.ft_bank.specs.Answered.{Answered}
 use Rattle.ft_bank.specs.Whole.{Wrote}
 use Rattle.ft_bank.specs.WriteSteps.{MayHave}
@@ -36,14 +37,16 @@ use Rattle.ft_section.specs.declared.answers.Objects.TheVariants.{One}
 use Rattle.ft_section.specs.Ready.{MayTry}
 
 -- The pass may write the list o: it has its lock, and its words stand for what the pass knows of it; it writes no
--- container, has lowered no count of a class that it hasn't raised again, and has a call left. (profile)
+-- container, has lowered no count of a class that it hasn't raised again, holds no reference for a box and makes none,
+-- and has a call left. (profile)
 pub record MayWriteList (k : Shape) (o : ℕ) (v : View) : Type 0 where
   pub container : o < container_count k
   pub kind : kind_in k.starts o ≡ kind.List
   pub locked : has_lock o v.log ≡ true
   pub even : (p : ℕ) → is_writing p v.log ≡ false
-  pub stands : Represents k.texts (held_words o v) (known_state o v)
+  pub stands : Represents k.texts (held_unboxed o v) (known_state o v)
   pub owes : owes v.log ≡ 0
+  pub boxes : IsDoneWithBoxes k v.log
   pub left : 0 < v.left
 
 -- A call is a write of the list o: the plain containers reply so to it, where the list has these values, and it has

@@ -4,13 +4,13 @@ ghost use Rattle.std.specs.Prelude.{◌≡◌, ℕ, ◌+◌, ◌<◌, ◌≤◌,
 ghost use Rattle.ft_layout.specs.Words.{FitsStored};
 ghost use Rattle.ft_trace.specs.Acts.{has_committed};
 ghost use Rattle.ft_trace.specs.Addresses.{class_of, slots};
-ghost use Rattle.ft_trace.specs.Holds.{held_words};
+ghost use Rattle.ft_trace.specs.Holds.{held_unboxed};
 ghost use Rattle.ft_trace.specs.Pictures.{root_in};
 ghost use Rattle.ft_bank.specs.declared.table.Table.{Table};
 ghost use Rattle.ft_bank.specs.Passes.{shape_of, view, IsPassOf};
 ghost use Rattle.ft_bank.specs.PassSections.{stack_of};
 ghost use Rattle.ft_bank.specs.TableNames.{table_id, root_for, IsTableIn};
-ghost use Rattle.ft_bank.specs.Whole.{OnlyLoaded, OnlyPut};
+ghost use Rattle.ft_bank.specs.Whole.{OnlyLoaded, OnlyWritten};
 ghost use Rattle.ft_list.specs.ListItemWrites.{WritesList, IsPutting, known_items, stored_item};
 ghost use Rattle.ft_list.specs.Internal.Moving.{IsMoving};
 ghost use Rattle.ft_list.specs.Internal.Additions.{count_in, first_in, with_added, GivesItems, IsAdditionTo};
@@ -57,7 +57,7 @@ fn given_item(bank: &Bank, pass: &mut Pass, m: u32, table: Option<Table>, place:
     requires pass { IsPassOf bank.now pass.old }
     requires gives { (o : ℕ) × GivesItems (shape_of bank.now) o m (view pass.old) }
     requires table { (t : Table) → table ≡ Some t → IsTableIn (shape_of bank.now) t }
-    requires root { root_in (held_words m (view pass.old)) ≡ root_for table }
+    requires root { root_in (held_unboxed m (view pass.old)) ≡ root_for table }
     requires place { place < length (known_items m (view pass.old)) }
     ensures pass { IsPassOf bank.now pass.new }
     ensures stack { stack_of pass.new ≡ stack_of pass.old }
@@ -88,20 +88,20 @@ fn put_from(
     requires early { has_committed o (view pass.old).log ≡ false }
     requires gives { GivesItems (shape_of bank.now) o m (view pass.old) }
     requires from { (t : Table) → from ≡ Some t → IsTableIn (shape_of bank.now) t }
-    requires root { root_in (held_words m (view pass.old)) ≡ root_for from }
+    requires root { root_in (held_unboxed m (view pass.old)) ≡ root_for from }
     requires count { count ≡ length (known_items o (view pass.old)) }
     requires more { more ≡ length (known_items m (view pass.old)) }
     requires room { count + more ≤ slots (class_of (table_id table)) }
     requires before { IsPutting (class_of (table_id table)) (known_items o (view pass.old)) count (count + more)
-        (stored_item (known_items o (view pass.old))) (held_words o (view pass.old)).table }
+        (stored_item (known_items o (view pass.old))) (held_unboxed o (view pass.old)).table }
     ensures pass { IsPassOf bank.now pass.new }
     ensures stack { stack_of pass.new ≡ stack_of pass.old }
     ensures list { WritesList (shape_of bank.now) o table (view pass.new) }
-    ensures only { OnlyPut o (view pass.old) (view pass.new) }
-    ensures block { (held_words o (view pass.new)).block ≡ (held_words o (view pass.old)).block }
+    ensures only { OnlyWritten o (view pass.old) (view pass.new) }
+    ensures block { (held_unboxed o (view pass.new)).block ≡ (held_unboxed o (view pass.old)).block }
     ensures moved { IsMoving (class_of (table_id table)) (known_items o (view pass.old))
         (known_items o (view pass.old) ++ known_items m (view pass.old)) count (count + more) (count + more)
-        (held_words o (view pass.new)).table }
+        (held_unboxed o (view pass.new)).table }
 {
     let start = bank.cell_of(table);
     for place in 0..more {
@@ -121,15 +121,15 @@ fn put_items(bank: &Bank, pass: &mut Pass, o: u32, table: Table, m: u32, count: 
     requires more { more ≡ length (known_items m (view pass.old)) }
     requires room { count + more ≤ slots (class_of (table_id table)) }
     requires before { IsPutting (class_of (table_id table)) (known_items o (view pass.old)) count (count + more)
-        (stored_item (known_items o (view pass.old))) (held_words o (view pass.old)).table }
+        (stored_item (known_items o (view pass.old))) (held_unboxed o (view pass.old)).table }
     ensures pass { IsPassOf bank.now pass.new }
     ensures stack { stack_of pass.new ≡ stack_of pass.old }
     ensures list { WritesList (shape_of bank.now) o table (view pass.new) }
-    ensures only { OnlyPut o (view pass.old) (view pass.new) }
-    ensures block { (held_words o (view pass.new)).block ≡ (held_words o (view pass.old)).block }
+    ensures only { OnlyWritten o (view pass.old) (view pass.new) }
+    ensures block { (held_unboxed o (view pass.new)).block ≡ (held_unboxed o (view pass.old)).block }
     ensures moved { IsMoving (class_of (table_id table)) (known_items o (view pass.old))
         (known_items o (view pass.old) ++ known_items m (view pass.old)) count (count + more) (count + more)
-        (held_words o (view pass.new)).table }
+        (held_unboxed o (view pass.new)).table }
 {
     let from = table_at_root(bank, pass, m);
     put_from(bank, pass, o, table, m, from, count, more);
@@ -152,15 +152,15 @@ pub(crate) fn put_added(
     requires count { count ≡ length (known_items o (view pass.old)) }
     requires room { count + count_in addition ≤ slots (class_of (table_id table)) }
     requires before { IsPutting (class_of (table_id table)) (known_items o (view pass.old)) (first_in addition count)
-        (count + count_in addition) (stored_item (known_items o (view pass.old))) (held_words o (view pass.old)).table }
+        (count + count_in addition) (stored_item (known_items o (view pass.old))) (held_unboxed o (view pass.old)).table }
     ensures pass { IsPassOf bank.now pass.new }
     ensures stack { stack_of pass.new ≡ stack_of pass.old }
     ensures list { WritesList (shape_of bank.now) o table (view pass.new) }
-    ensures only { OnlyPut o (view pass.old) (view pass.new) }
-    ensures block { (held_words o (view pass.new)).block ≡ (held_words o (view pass.old)).block }
+    ensures only { OnlyWritten o (view pass.old) (view pass.new) }
+    ensures block { (held_unboxed o (view pass.new)).block ≡ (held_unboxed o (view pass.old)).block }
     ensures moved { IsMoving (class_of (table_id table)) (known_items o (view pass.old))
         (with_added addition (view pass.old) (known_items o (view pass.old))) (first_in addition count)
-        (count + count_in addition) (count + count_in addition) (held_words o (view pass.new)).table }
+        (count + count_in addition) (count + count_in addition) (held_unboxed o (view pass.new)).table }
 {
     match addition {
         Addition::One { place, value } => {

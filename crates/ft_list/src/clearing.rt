@@ -5,10 +5,11 @@ ghost use Rattle.ft_model.specs.declared.call.Call.TheVariants as call;
 ghost use Rattle.ft_model.specs.declared.call.ListCall.TheVariants as list;
 ghost use Rattle.ft_model.specs.declared.reply.Reply.TheVariants as reply;
 ghost use Rattle.ft_trace.specs.Acts.{flight, used};
-ghost use Rattle.ft_trace.specs.Holds.{held_words};
+ghost use Rattle.ft_trace.specs.Holds.{held_unboxed};
 ghost use Rattle.ft_trace.specs.Pictures.{root_in};
 ghost use Rattle.ft_bank.specs.Passes.{shape_of, view, IsPassOf};
 ghost use Rattle.ft_bank.specs.PassSections.{stack_of};
+ghost use Rattle.ft_bank.specs.SameBoxes.{SameReferences};
 ghost use Rattle.ft_bank.specs.Whole.{Wrote};
 ghost use Rattle.ft_table_calls.specs.Adding.{KeepsCursors};
 ghost use Rattle.ft_list.specs.ListWrites.{MayWriteList};
@@ -18,6 +19,7 @@ ghost use Rattle.ft_list.specs.Internal.NewListTables.{MayAdd};
 use crate::adding::root_table;
 use crate::bare::write_nothing;
 use crate::locked::LENGTH;
+use crate::rooting::put_other_root;
 use ft_bank::{Bank, Pass, Table};
 use ft_model::{Call, ListCall, Reply};
 use ft_section::{Object, Stamp};
@@ -33,20 +35,19 @@ fn clear_call(l: Object) -> Call
     }
 }
 
-/// Clears a list that has a table, as the write of the call: puts 0 into its root. Answers the number of the
-/// write.
+/// Clears a list that has a table, as the write of the call: puts 0 into its root, and drops the references of the
+/// table. Answers the number of the write.
 fn clear_table(bank: &Bank, pass: &mut Pass, l: Object, table: Table) -> u64
     requires pass { IsPassOf bank.now pass.old }
     requires may { MayAdd (shape_of bank.now) l (Some table) (view pass.old) }
     ensures pass { IsPassOf bank.now pass.new }
     ensures stack { stack_of pass.new ≡ stack_of pass.old }
     ensures wrote { Wrote (call.List l list.Clear) reply.Done result (view pass.old) (view pass.new) }
-    ensures root { root_in (held_words l (view pass.new)) ≡ 0 }
+    ensures root { root_in (held_unboxed l (view pass.new)) ≡ 0 }
+    ensures references { SameReferences (view pass.old) (view pass.new) }
 {
-    let _ = table;
     let called = clear_call(l);
-    bank.start_write(pass, l);
-    bank.put_root(pass, l, None);
+    put_other_root(bank, pass, l, Some(table), None);
     bank.put_block(pass, l, LENGTH, 0);
     let number = bank.commit(pass, &called, &Reply::Done);
     bank.stop_write(pass, l);
@@ -60,7 +61,8 @@ fn clear_list(bank: &Bank, pass: &mut Pass, l: Object, old: Option<Table>) -> u6
     ensures pass { IsPassOf bank.now pass.new }
     ensures stack { stack_of pass.new ≡ stack_of pass.old }
     ensures wrote { Wrote (call.List l list.Clear) reply.Done result (view pass.old) (view pass.new) }
-    ensures root { root_in (held_words l (view pass.new)) ≡ 0 }
+    ensures root { root_in (held_unboxed l (view pass.new)) ≡ 0 }
+    ensures references { SameReferences (view pass.old) (view pass.new) }
 {
     match old {
         Some(table) => clear_table(bank, pass, l, table),

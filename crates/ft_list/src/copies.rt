@@ -4,6 +4,8 @@ ghost use Rattle.ft_model.specs.declared.call.Call.TheVariants as call;
 ghost use Rattle.ft_model.specs.declared.call.ListCall.TheVariants as list;
 ghost use Rattle.ft_model.specs.Lists.{clamped_in, list_slice};
 ghost use Rattle.ft_trace.specs.Addresses.{container_count};
+ghost use Rattle.ft_trace.specs.ContainerStates.{kind_in};
+ghost use Rattle.ft_model.specs.declared.script.Kind.TheVariants as kind;
 ghost use Rattle.ft_bank.specs.Passes.{shape_of, view, IsPassOf};
 ghost use Rattle.ft_bank.specs.PassSections.{stack_of};
 ghost use Rattle.ft_list.specs.ListWrites.{MayWriteList};
@@ -42,6 +44,7 @@ fn copy_part(
 ) -> Result<Vec<Value>, AllocError>
     requires pass { IsPassOf bank.now pass.old }
     requires container { l < container_count (shape_of bank.now) }
+    requires list { kind_in (shape_of bank.now).starts l ≡ kind.List }
     ensures pass { IsPassOf bank.now pass.new }
     ensures reads { Reads (shape_of bank.now) l (IsOfItems (shape_of bank.now) (λ items. past ≤ length items →
         AreCopied result (drop first (take past items)))) pass.old pass.new }
@@ -65,6 +68,7 @@ fn copy_slice(
 ) -> Result<Vec<Value>, AllocError>
     requires pass { IsPassOf bank.now pass.old }
     requires container { l < container_count (shape_of bank.now) }
+    requires list { kind_in (shape_of bank.now).starts l ≡ kind.List }
     ensures pass { IsPassOf bank.now pass.new }
     ensures reads { Reads (shape_of bank.now) l (IsOfItems (shape_of bank.now) (λ items.
         AreCopied result (list_slice items start end))) pass.old pass.new }
@@ -82,6 +86,7 @@ pub fn copy_items(
 ) -> Result<Vec<Value>, AllocError>
     requires pass { IsPassOf bank.now pass.old }
     requires container { l < container_count (shape_of bank.now) }
+    requires list { kind_in (shape_of bank.now).starts l ≡ kind.List }
     ensures pass { IsPassOf bank.now pass.new }
     ensures reads { Reads (shape_of bank.now) l (IsOfItems (shape_of bank.now) (AreCopied result)) pass.old
         pass.new }

@@ -32,6 +32,7 @@ use std::alloc::{AllocError, Global};
 fn find_between(bank: &Bank, pass: &mut Pass, l: Object, value: Value) -> (Option<u64>, Window)
     requires pass { IsPassOf bank.now pass.old }
     requires container { l < container_count (shape_of bank.now) }
+    requires list { kind_in (shape_of bank.now).starts l ≡ kind.List }
     ensures pass { IsPassOf bank.now pass.new }
     ensures saw { Saw (shape_of bank.now) l (IsOfItems (shape_of bank.now) (λ items.
         result.0 ≡ index_of items value)) result.1 pass.old pass.new }
@@ -59,6 +60,7 @@ fn copy_between(
 ) -> (Result<Vec<Value>, AllocError>, Window)
     requires pass { IsPassOf bank.now pass.old }
     requires container { l < container_count (shape_of bank.now) }
+    requires list { kind_in (shape_of bank.now).starts l ≡ kind.List }
     ensures pass { IsPassOf bank.now pass.new }
     ensures saw { Saw (shape_of bank.now) l (IsOfItems (shape_of bank.now) (AreCopied result.0)) result.1 pass.old
         pass.new }
@@ -152,6 +154,8 @@ fn alike_between(bank: &Bank, pass: &mut Pass, l: Object, m: Object) -> (bool, W
     requires pass { IsPassOf bank.now pass.old }
     requires container { l < container_count (shape_of bank.now) }
     requires other { m < container_count (shape_of bank.now) }
+    requires list { kind_in (shape_of bank.now).starts l ≡ kind.List }
+    requires other_list { kind_in (shape_of bank.now).starts m ≡ kind.List }
     ensures pass { IsPassOf bank.now pass.new }
     ensures saw { SawBoth (shape_of bank.now) l m (AreOfItems (shape_of bank.now) (λ items others.
         result.0 ≡ same_items items others)) result.1 result.2 pass.old pass.new }

@@ -8,27 +8,26 @@ ghost use Rattle.ft_model.specs.declared.content.Content.TheVariants as content;
 ghost use Rattle.ft_model.specs.declared.reply.Reply.TheVariants as reply;
 ghost use Rattle.ft_layout.specs.Containers.{IsBlock};
 ghost use Rattle.ft_layout.specs.Words.{FitsStored};
-ghost use Rattle.ft_trace.specs.declared.Act.TheVariants.{StartWrite, PutRoot};
-ghost use Rattle.ft_trace.specs.Acts.{view_after, stage};
+ghost use Rattle.ft_trace.specs.Acts.{stage};
 ghost use Rattle.ft_trace.specs.Addresses.{class_of, slots};
-ghost use Rattle.ft_trace.specs.Holds.{held_words, known_state, in_hand};
+ghost use Rattle.ft_trace.specs.Holds.{held_unboxed, known_state, in_hand};
 ghost use Rattle.ft_trace.specs.Pictures.{root_in};
 ghost use Rattle.ft_bank.specs.Passes.{shape_of, view, IsPassOf};
 ghost use Rattle.ft_bank.specs.PassSections.{stack_of};
-ghost use Rattle.ft_bank.specs.Series.{DidAll};
 ghost use Rattle.ft_bank.specs.TableNames.{table_id, IsPlaceOf, IsTableIn};
+ghost use Rattle.ft_bank.specs.SameBoxes.{SameReferences};
 ghost use Rattle.ft_bank.specs.Whole.{OnlyLoaded, Wrote};
-ghost use Rattle.ft_bank.specs.WriteSteps.{KeepsUnwritten};
 ghost use Rattle.ft_table_calls.specs.Adding.{OnlyFilled};
 ghost use Rattle.ft_list.specs.ListItemWrites.{WritesList, IsPutting, known_items, stored_item};
 ghost use Rattle.ft_list.specs.ListWrites.{Grows};
-ghost use Rattle.ft_list.specs.Internal.NewListTables.{KnowsList, MayGrowList, IsFilled, with_new_item};
+ghost use Rattle.ft_list.specs.Internal.NewListTables.{HasRooted, KnowsList, MayGrowList, IsFilled, with_new_item};
 ghost use Rattle.ft_list.specs.Internal.Additions.{count_in, with_added, IsAddition};
 
 use crate::addition::{Addition, added_count, first_place, put_added};
 use crate::items::{finish, word_at};
 use crate::locked::LENGTH;
 use crate::reads::read_stored;
+use crate::rooting::put_other_root;
 use ft_bank::{Bank, Pass, Table};
 use ft_layout::{Stored, item_word, list_items, stored_kind_of, stored_payload_of};
 use ft_model::{Call, Reply};
@@ -118,28 +117,27 @@ fn fill(bank: &Bank, pass: &mut Pass, o: u32, old: Option<Table>, table: Table, 
     }
 }
 
-/// Makes the version of a list odd and puts a table into its root that has what the list has.
+/// Makes the version of a list odd and puts a table into its root that has what the list has, each value in its place;
+/// the references of the table that the list had are dropped.
 fn begin_in(bank: &Bank, pass: &mut Pass, o: u32, old: Option<Table>, table: Table)
     requires pass { IsPassOf bank.now pass.old }
     requires may { MayGrowList (shape_of bank.now) o old table (view pass.old) }
     requires filled { IsFilled (class_of (table_id table)) (known_items o (view pass.old))
         (slots (class_of (table_id table))) (in_hand (table_id table) (view pass.old)) }
     requires room { length (known_items o (view pass.old)) ≤ slots (class_of (table_id table)) }
+    requires other { root_in (held_unboxed o (view pass.old)) ≢ suc (table_id table) }
     ensures pass { IsPassOf bank.now pass.new }
-    ensures did { (f : ℕ) × DidAll
-        (PutRoot o (suc (table_id table)) (root_in (held_words o (view pass.old))) ∷ StartWrite o f ∷ []) pass.old pass.new
-        × KeepsUnwritten (view_after (StartWrite o f) (view pass.old)) (view pass.new) }
+    ensures stack { stack_of pass.new ≡ stack_of pass.old }
+    ensures rooted { HasRooted o (suc (table_id table)) (view pass.old) (view pass.new) }
     ensures list { WritesList (shape_of bank.now) o table (view pass.new) }
     ensures putting { (first past : ℕ) →
         IsPutting (class_of (table_id table)) (known_items o (view pass.old)) first past
-        (stored_item (known_items o (view pass.old))) (held_words o (view pass.new)).table }
+        (stored_item (known_items o (view pass.old))) (held_unboxed o (view pass.new)).table }
     ensures content { (known_state o (view pass.old)).content ≡ content.List (known_items o (view pass.old)) }
-    ensures head { IsBlock (held_words o (view pass.new)).block (Some (class_of (table_id table)))
+    ensures head { IsBlock (held_unboxed o (view pass.new)).block (Some (class_of (table_id table)))
         (length (known_items o (view pass.old))) 0 0 }
 {
-    let _ = old;
-    bank.start_write(pass, o);
-    bank.put_root(pass, o, Some(table));
+    put_other_root(bank, pass, o, old, Some(table));
 }
 
 /// Adds to a list of that many items, which gets this table, as the write of this call. Answers the number of the
@@ -156,7 +154,7 @@ pub(crate) fn add_in(
 ) -> u64
     requires pass { IsPassOf bank.now pass.old }
     requires may { MayGrowList (shape_of bank.now) o old table (view pass.old) }
-    requires other { root_in (held_words o (view pass.old)) ≢ suc (table_id table) }
+    requires other { root_in (held_unboxed o (view pass.old)) ≢ suc (table_id table) }
     requires addition { IsAddition (shape_of bank.now) count addition (view pass.old) }
     requires count { count ≡ length (known_items o (view pass.old)) }
     requires room { count + count_in addition ≤ slots (class_of (table_id table)) }
@@ -165,7 +163,8 @@ pub(crate) fn add_in(
     ensures pass { IsPassOf bank.now pass.new }
     ensures stack { stack_of pass.new ≡ stack_of pass.old }
     ensures wrote { Wrote called.now reply.Done result (view pass.old) (view pass.new) }
-    ensures root { root_in (held_words o (view pass.new)) ≡ suc (table_id table) }
+    ensures root { root_in (held_unboxed o (view pass.new)) ≡ suc (table_id table) }
+    ensures references { SameReferences (view pass.old) (view pass.new) }
 {
     fill(bank, pass, o, old, table, count);
     begin_in(bank, pass, o, old, table);

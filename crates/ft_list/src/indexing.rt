@@ -6,7 +6,7 @@ ghost use Rattle.ft_model.specs.declared.script.Kind.TheVariants as kind;
 ghost use Rattle.ft_trace.specs.declared.Act.{Act};
 ghost use Rattle.ft_trace.specs.Acts.{announces, has_lock};
 ghost use Rattle.ft_trace.specs.Addresses.{container_count};
-ghost use Rattle.ft_trace.specs.Holds.{held_words, known_state};
+ghost use Rattle.ft_trace.specs.Holds.{held_unboxed, known_state};
 ghost use Rattle.ft_trace.specs.Pictures.{Represents};
 ghost use Rattle.ft_trace.specs.ContainerStates.{kind_in};
 ghost use Rattle.ft_bank.specs.Answered.{Answered};
@@ -28,6 +28,7 @@ use ft_section::{Look, Object, Stamp};
 fn read_between(bank: &Bank, pass: &mut Pass, l: Object, index: i64) -> AtIndex
     requires pass { IsPassOf bank.now pass.old }
     requires container { l < container_count (shape_of bank.now) }
+    requires list { kind_in (shape_of bank.now).starts l ≡ kind.List }
     ensures pass { IsPassOf bank.now pass.new }
     ensures looked { (part : List Act) × AreLooks part × DidAll part pass.old pass.new
         × ShowsBetween (shape_of bank.now) l index part result }
@@ -95,7 +96,7 @@ pub(crate) fn get_locked(bank: &Bank, pass: &mut Pass, l: Object, index: i64) ->
     requires container { l < container_count (shape_of bank.now) }
     requires list { kind_in (shape_of bank.now).starts l ≡ kind.List }
     requires locked { has_lock l (view pass.old).log ≡ true }
-    requires stands { Represents (shape_of bank.now).texts (held_words l (view pass.old)) (known_state l (view pass.old)) }
+    requires stands { Represents (shape_of bank.now).texts (held_unboxed l (view pass.old)) (known_state l (view pass.old)) }
     requires left { 0 < (view pass.old).left }
     ensures pass { IsPassOf bank.now pass.new }
     ensures sections { stack_of pass.new ≡ stack_of pass.old }

@@ -25,10 +25,12 @@ mod making;
 mod pairs;
 mod reads;
 mod removals;
+mod rooting;
 mod scans;
 mod searches;
 mod tries;
 mod turning;
+mod values;
 mod writes;
 
 pub use crate::adding::{append_by, extend_by, insert_by};

@@ -12,7 +12,7 @@ ghost use Rattle.ft_model.specs.Lists.{index_in};
 ghost use Rattle.ft_trace.specs.declared.Act.TheVariants.{ReadBlock};
 ghost use Rattle.ft_trace.specs.Acts.{has_lock};
 ghost use Rattle.ft_trace.specs.Addresses.{container_count};
-ghost use Rattle.ft_trace.specs.Holds.{held_words};
+ghost use Rattle.ft_trace.specs.Holds.{held_unboxed};
 ghost use Rattle.ft_trace.specs.Pictures.{root_in};
 ghost use Rattle.ft_bank.specs.declared.table.Table.{Table};
 ghost use Rattle.ft_bank.specs.Answered.{Answered};
@@ -72,7 +72,7 @@ pub(crate) fn table_at_root(bank: &Bank, pass: &mut Pass, l: Object) -> Option<T
     ensures stack { stack_of pass.new ≡ stack_of pass.old }
     ensures only { OnlyLoaded (view pass.old) (view pass.new) }
     ensures table { (t : Table) → result ≡ Some t → IsTableIn (shape_of bank.now) t }
-    ensures root { root_in (held_words l (view pass.old)) ≡ root_for result }
+    ensures root { root_in (held_unboxed l (view pass.old)) ≡ root_for result }
 {
     let root = bank.read_block(pass, l, 0);
     table_at(bank, root)

@@ -4,27 +4,30 @@
 //! and the same before and after, and where the root still names the table then, since no table comes
 //! back that the pass has found. Only where the root is read 0 does the version of the list decide.
 ghost use Rattle.std.specs.Prelude.{◌≡◌, ℕ, suc, ◌<◌, ◌≤◌, List, [], ◌∷◌};
+ghost use Rattle.ft_model.specs.declared.script.Kind.TheVariants as kind;
 ghost use Rattle.ft_trace.specs.declared.Act.{Act};
 ghost use Rattle.ft_trace.specs.declared.Act.TheVariants.{ReadRoot, ReadTable};
 ghost use Rattle.ft_trace.specs.Acts.{announces};
 ghost use Rattle.ft_trace.specs.Addresses.{container_count, class_of, slots, IsTableName};
+ghost use Rattle.ft_trace.specs.ContainerStates.{kind_in};
 ghost use Rattle.ft_trace.specs.Pictures.{item_offset};
 ghost use Rattle.ft_bank.specs.Passes.{shape_of, view, IsPassOf};
 ghost use Rattle.ft_bank.specs.Series.{DidAll};
 ghost use Rattle.ft_bank.specs.TableNames.{table_id, IsPlaceOf, IsTableIn};
 ghost use Rattle.ft_bank.specs.Whole.{OnlyLoaded};
+ghost use Rattle.ft_search.specs.Boxed.{SeesValue};
 ghost use Rattle.ft_search.specs.KeyLooks.{AreLooks};
 ghost use Rattle.ft_list.specs.ItemLooks.{item_acts, EndsItemTable, EndsItemRound, ShowsFound};
 
 use crate::items::word_at;
 use ft_bank::{Bank, Pass, Table};
 use ft_layout::{item_word, list_items};
-use ft_search::table_at;
+use ft_search::{SeenValue, see_value, table_at};
 
 /// What a look-up of one item without the lock came to.
 #[derive(Clone, Copy)]
 pub(crate) enum LookedItem {
-    /// The kind and the payload of the item, and the stamp.
+    /// The kind and the payload that the item reads, and the stamp.
     Item(u64, u64, u64),
     /// The list's table has no such item, at this stamp.
     Past(u64),
@@ -46,10 +49,12 @@ pub(crate) enum ItemRound {
 pub(crate) struct SeenItem {
     /// The version at first.
     pub(crate) opened: u64,
-    /// The kind of the value.
-    pub(crate) kind: u64,
-    /// The payload of the value.
+    /// The kind of the value, as it stands in the item.
+    pub(crate) found_kind: u64,
+    /// The payload of the value, as it stands in the item.
     pub(crate) payload: u64,
+    /// The value, read through its box where it has one.
+    pub(crate) value: SeenValue,
     /// The counter.
     pub(crate) number: u64,
     /// The version at last.
@@ -69,7 +74,7 @@ fn load_word(bank: &Bank, pass: &mut Pass, table: Table, start: u64, index: u64,
     bank.read_word(pass, table, start, word_at(index, word))
 }
 
-/// Loads an item and the counter between two loads of the item's version.
+/// Loads an item, the box that it names, and the counter between two loads of the item's version.
 #[inline(always)]
 fn see_item(bank: &Bank, pass: &mut Pass, table: Table, index: u64) -> SeenItem
     requires pass { IsPassOf bank.now pass.old }
@@ -77,17 +82,20 @@ fn see_item(bank: &Bank, pass: &mut Pass, table: Table, index: u64) -> SeenItem
     requires index { index < slots (class_of (table_id table)) }
     ensures pass { IsPassOf bank.now pass.new }
     ensures did { DidAll (item_acts (table_id table) index result) pass.old pass.new }
+    ensures sees { SeesValue (shape_of bank.now) result.found_kind result.payload result.value }
 {
     let start = bank.cell_of(table);
     let opened = load_word(bank, pass, table, start, index, item_word::VERSION);
-    let kind = load_word(bank, pass, table, start, index, item_word::VALUE_KIND);
+    let found_kind = load_word(bank, pass, table, start, index, item_word::VALUE_KIND);
     let payload = load_word(bank, pass, table, start, index, item_word::VALUE);
+    let value = see_value(bank, pass, found_kind, payload);
     let number = bank.stamp(pass);
     let closed = load_word(bank, pass, table, start, index, item_word::VERSION);
     SeenItem {
         opened,
-        kind,
+        found_kind,
         payload,
+        value,
         number,
         closed,
     }
@@ -98,6 +106,7 @@ fn see_item(bank: &Bank, pass: &mut Pass, table: Table, index: u64) -> SeenItem
 fn look_at(bank: &Bank, pass: &mut Pass, o: u32, index: u64, root: u64, table: Table) -> ItemRound
     requires pass { IsPassOf bank.now pass.old }
     requires container { o < container_count (shape_of bank.now) }
+    requires list { kind_in (shape_of bank.now).starts o ≡ kind.List }
     requires online { 0 < announces (view pass.old).log }
     requires table { IsTableIn (shape_of bank.now) table }
     requires root { root ≡ suc (table_id table) }
@@ -114,7 +123,7 @@ fn look_at(bank: &Bank, pass: &mut Pass, o: u32, index: u64, root: u64, table: T
     if seen.closed != seen.opened || seen.opened % 2 != 0 {
         return ItemRound::Ended(LookedItem::Contended(seen.opened, seen.closed));
     }
-    ItemRound::Ended(LookedItem::Item(seen.kind, seen.payload, seen.number))
+    ItemRound::Ended(LookedItem::Item(seen.value.kind, seen.value.value, seen.number))
 }
 
 /// A round over a table that has no such item: the counter, and then the root again.
@@ -166,6 +175,7 @@ fn look_bare(bank: &Bank, pass: &mut Pass, o: u32) -> ItemRound
 fn look_round(bank: &Bank, pass: &mut Pass, o: u32, index: u64, root: u64) -> ItemRound
     requires pass { IsPassOf bank.now pass.old }
     requires container { o < container_count (shape_of bank.now) }
+    requires list { kind_in (shape_of bank.now).starts o ≡ kind.List }
     requires online { 0 < announces (view pass.old).log }
     requires table { (t : ℕ) → root ≡ suc t → IsTableName (shape_of bank.now) t }
     requires last { (rest : List Act) × ((view pass.old).log ≡ ReadRoot o root ∷ rest) }
@@ -190,6 +200,7 @@ fn look_round(bank: &Bank, pass: &mut Pass, o: u32, index: u64, root: u64) -> It
 pub(crate) fn find_item(bank: &Bank, pass: &mut Pass, o: u32, index: u64) -> LookedItem
     requires pass { IsPassOf bank.now pass.old }
     requires container { o < container_count (shape_of bank.now) }
+    requires list { kind_in (shape_of bank.now).starts o ≡ kind.List }
     requires online { 0 < announces (view pass.old).log }
     ensures pass { IsPassOf bank.now pass.new }
     ensures keeps { OnlyLoaded (view pass.old) (view pass.new) }

@@ -4,6 +4,8 @@ ghost use Rattle.ft_model.specs.declared.call.Call.TheVariants as call;
 ghost use Rattle.ft_model.specs.declared.call.ListCall.TheVariants as list;
 ghost use Rattle.ft_model.specs.Lists.{same_items};
 ghost use Rattle.ft_trace.specs.Addresses.{container_count};
+ghost use Rattle.ft_trace.specs.ContainerStates.{kind_in};
+ghost use Rattle.ft_model.specs.declared.script.Kind.TheVariants as kind;
 ghost use Rattle.ft_bank.specs.Passes.{shape_of, view, IsPassOf};
 ghost use Rattle.ft_bank.specs.PassSections.{stack_of};
 ghost use Rattle.ft_list.specs.ListWrites.{MayWriteList};
@@ -23,6 +25,8 @@ pub(crate) fn are_alike(bank: &Bank, pass: &mut Pass, l: Object, m: Object) -> b
     requires pass { IsPassOf bank.now pass.old }
     requires container { l < container_count (shape_of bank.now) }
     requires other { m < container_count (shape_of bank.now) }
+    requires list { kind_in (shape_of bank.now).starts l ≡ kind.List }
+    requires other_list { kind_in (shape_of bank.now).starts m ≡ kind.List }
     ensures pass { IsPassOf bank.now pass.new }
     ensures reads { ReadsBoth (shape_of bank.now) l m
         (AreOfItems (shape_of bank.now) (λ items others. result ≡ same_items items others)) pass.old pass.new }

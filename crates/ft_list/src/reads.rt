@@ -5,8 +5,10 @@ ghost use Rattle.ft_layout.specs.declared.slot.Stored.{Stored};
 ghost use Rattle.ft_layout.specs.Words.{IsStored};
 ghost use Rattle.ft_trace.specs.Acts.{has_lock};
 ghost use Rattle.ft_trace.specs.Addresses.{container_count, class_of, slots};
-ghost use Rattle.ft_trace.specs.Holds.{held_words};
+ghost use Rattle.ft_trace.specs.Holds.{held_unboxed};
 ghost use Rattle.ft_trace.specs.Pictures.{item_field, root_in};
+ghost use Rattle.ft_trace.specs.ContainerStates.{kind_in};
+ghost use Rattle.ft_model.specs.declared.script.Kind.TheVariants as kind;
 ghost use Rattle.ft_bank.specs.Passes.{shape_of, view, IsPassOf};
 ghost use Rattle.ft_bank.specs.PassSections.{stack_of};
 ghost use Rattle.ft_bank.specs.TableNames.{table_id, IsTableIn};
@@ -17,16 +19,18 @@ ghost use Rattle.ft_reads.specs.Reads.{Reads};
 use crate::gets::found_of;
 use crate::items::word_at;
 use crate::locked::{LENGTH, place_in};
+use crate::values::held_value;
 use ft_bank::{Bank, Pass, Table};
 use ft_layout::{Stored, item_of, item_word, list_items};
 use ft_model::Value;
-use ft_search::table_named;
+use ft_search::{see_value, table_named};
 use ft_section::Object;
 
-/// Reads the value of an item in a table.
+/// Reads the value of an item in a table, in the box that it names where it names one.
 fn read_value(bank: &Bank, pass: &mut Pass, l: Object, table: Table, place: u64) -> Option<Value>
     requires pass { IsPassOf bank.now pass.old }
     requires container { l < container_count (shape_of bank.now) }
+    requires list { kind_in (shape_of bank.now).starts l ≡ kind.List }
     requires table { IsTableIn (shape_of bank.now) table }
     requires place { place < slots (class_of (table_id table)) }
     ensures pass { IsPassOf bank.now pass.new }
@@ -35,7 +39,8 @@ fn read_value(bank: &Bank, pass: &mut Pass, l: Object, table: Table, place: u64)
     let _ = l;
     let kind = bank.read_table(pass, table, word_at(place, item_word::VALUE_KIND));
     let payload = bank.read_table(pass, table, word_at(place, item_word::VALUE));
-    match found_of(kind, payload) {
+    let seen = see_value(bank, pass, kind, payload);
+    match found_of(seen.kind, seen.value) {
         Some(found) => found,
         None => None,
     }
@@ -45,20 +50,20 @@ fn read_value(bank: &Bank, pass: &mut Pass, l: Object, table: Table, place: u64)
 pub(crate) fn read_stored(bank: &Bank, pass: &mut Pass, o: u32, table: Table, place: u64) -> Stored
     requires pass { IsPassOf bank.now pass.old }
     requires container { o < container_count (shape_of bank.now) }
+    requires list { kind_in (shape_of bank.now).starts o ≡ kind.List }
     requires locked { has_lock o (view pass.old).log ≡ true }
     requires table { IsTableIn (shape_of bank.now) table }
-    requires root { root_in (held_words o (view pass.old)) ≡ suc (table_id table) }
+    requires root { root_in (held_unboxed o (view pass.old)) ≡ suc (table_id table) }
     requires place { place < slots (class_of (table_id table)) }
     ensures pass { IsPassOf bank.now pass.new }
     ensures stack { stack_of pass.new ≡ stack_of pass.old }
     ensures only { OnlyLoaded (view pass.old) (view pass.new) }
     ensures stored { (stored : Stored) →
-        IsStored (item_field (held_words o (view pass.old)).table place 1) (item_field (held_words o (view pass.old)).table place 2) stored →
+        IsStored (item_field (held_unboxed o (view pass.old)).table place 1) (item_field (held_unboxed o (view pass.old)).table place 2) stored →
         result ≡ stored }
 {
-    let _ = o;
-    let kind = bank.read_table(pass, table, word_at(place, item_word::VALUE_KIND));
-    let payload = bank.read_table(pass, table, word_at(place, item_word::VALUE));
+    let start = bank.cell_of(table);
+    let (kind, payload) = held_value(bank, pass, o, table, start, place);
     item_of(&[0, kind, payload, 0]).unwrap_or(Stored::Empty)
 }
 
@@ -67,6 +72,7 @@ pub(crate) fn read_stored(bank: &Bank, pass: &mut Pass, o: u32, table: Table, pl
 pub(crate) fn read_item(bank: &Bank, pass: &mut Pass, l: Object, place: u64) -> Option<Value>
     requires pass { IsPassOf bank.now pass.old }
     requires container { l < container_count (shape_of bank.now) }
+    requires list { kind_in (shape_of bank.now).starts l ≡ kind.List }
     ensures pass { IsPassOf bank.now pass.new }
     ensures reads { Reads (shape_of bank.now) l (IsItemAt (shape_of bank.now) place result) pass.old pass.new }
 {
@@ -87,6 +93,7 @@ pub(crate) fn read_item(bank: &Bank, pass: &mut Pass, l: Object, place: u64) -> 
 pub fn read_named(bank: &Bank, pass: &mut Pass, l: Object, index: i64) -> Option<Value>
     requires pass { IsPassOf bank.now pass.old }
     requires container { l < container_count (shape_of bank.now) }
+    requires list { kind_in (shape_of bank.now).starts l ≡ kind.List }
     ensures pass { IsPassOf bank.now pass.new }
     ensures reads { Reads (shape_of bank.now) l (IsItemNamed (shape_of bank.now) index result) pass.old pass.new }
 {

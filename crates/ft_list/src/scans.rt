@@ -3,6 +3,8 @@
 ghost use Rattle.std.specs.Prelude.{◌≡◌, ◌<◌};
 ghost use Rattle.ft_model.specs.Lists.{index_of, count_of};
 ghost use Rattle.ft_trace.specs.Addresses.{container_count};
+ghost use Rattle.ft_trace.specs.ContainerStates.{kind_in};
+ghost use Rattle.ft_model.specs.declared.script.Kind.TheVariants as kind;
 ghost use Rattle.ft_bank.specs.Passes.{shape_of, IsPassOf};
 ghost use Rattle.ft_reads.specs.Reads.{Reads};
 ghost use Rattle.ft_list.specs.Scans.{IsOfItems};
@@ -17,6 +19,7 @@ use ft_section::Object;
 pub(crate) fn first_equal(bank: &Bank, pass: &mut Pass, l: Object, value: Value) -> Option<u64>
     requires pass { IsPassOf bank.now pass.old }
     requires container { l < container_count (shape_of bank.now) }
+    requires list { kind_in (shape_of bank.now).starts l ≡ kind.List }
     ensures pass { IsPassOf bank.now pass.new }
     ensures reads { Reads (shape_of bank.now) l (IsOfItems (shape_of bank.now) (λ items. result ≡ index_of items value))
         pass.old pass.new }
@@ -35,6 +38,7 @@ pub(crate) fn first_equal(bank: &Bank, pass: &mut Pass, l: Object, value: Value)
 pub(crate) fn count_equal(bank: &Bank, pass: &mut Pass, l: Object, value: Value) -> u64
     requires pass { IsPassOf bank.now pass.old }
     requires container { l < container_count (shape_of bank.now) }
+    requires list { kind_in (shape_of bank.now).starts l ≡ kind.List }
     ensures pass { IsPassOf bank.now pass.new }
     ensures reads { Reads (shape_of bank.now) l (IsOfItems (shape_of bank.now) (λ items. result ≡ count_of items value))
         pass.old pass.new }

@@ -7,12 +7,13 @@ ghost use Rattle.ft_model.specs.declared.data.Value.{Value};
 ghost use Rattle.ft_model.specs.declared.reply.Reply.TheVariants as reply;
 ghost use Rattle.ft_trace.specs.Acts.{has_committed};
 ghost use Rattle.ft_trace.specs.Addresses.{class_of, slots};
-ghost use Rattle.ft_trace.specs.Holds.{held_words};
+ghost use Rattle.ft_trace.specs.Holds.{held_unboxed};
 ghost use Rattle.ft_trace.specs.Pictures.{root_in};
 ghost use Rattle.ft_bank.specs.Passes.{shape_of, view, IsPassOf};
 ghost use Rattle.ft_bank.specs.PassSections.{stack_of};
 ghost use Rattle.ft_bank.specs.TableNames.{table_id};
-ghost use Rattle.ft_bank.specs.Whole.{OnlyPut, Wrote};
+ghost use Rattle.ft_bank.specs.SameBoxes.{SameReferences};
+ghost use Rattle.ft_bank.specs.Whole.{OnlyWritten, Wrote};
 ghost use Rattle.ft_list.specs.ListWrites.{MayWriteList, Changes};
 ghost use Rattle.ft_list.specs.ListItemWrites.{WritesList, IsPutting, known_items, stored_item};
 ghost use Rattle.ft_search.specs.MadeCalls.{MadeAs};
@@ -34,14 +35,16 @@ fn swap(bank: &Bank, pass: &mut Pass, o: u32, table: Table, count: u64, at: u64)
     requires list { WritesList (shape_of bank.now) o table (view pass.old) }
     requires early { has_committed o (view pass.old).log ≡ false }
     requires places { (at < count - 1 - at) × (count ≤ slots (class_of (table_id table))) }
+    requires before { (values : List Value) × (length values ≡ count)
+        × IsTurning (class_of (table_id table)) values at (held_unboxed o (view pass.old)).table }
     ensures pass { IsPassOf bank.now pass.new }
     ensures stack { stack_of pass.new ≡ stack_of pass.old }
     ensures list { WritesList (shape_of bank.now) o table (view pass.new) }
-    ensures only { OnlyPut o (view pass.old) (view pass.new) }
-    ensures block { (held_words o (view pass.new)).block ≡ (held_words o (view pass.old)).block }
+    ensures only { OnlyWritten o (view pass.old) (view pass.new) }
+    ensures block { (held_unboxed o (view pass.new)).block ≡ (held_unboxed o (view pass.old)).block }
     ensures turned { (values : List Value) → length values ≡ count →
-        IsTurning (class_of (table_id table)) values at (held_words o (view pass.old)).table →
-        IsTurning (class_of (table_id table)) values (at + 1) (held_words o (view pass.new)).table }
+        IsTurning (class_of (table_id table)) values at (held_unboxed o (view pass.old)).table →
+        IsTurning (class_of (table_id table)) values (at + 1) (held_unboxed o (view pass.new)).table }
 {
     let last = count - 1 - at;
     let start = bank.cell_of(table);
@@ -57,14 +60,16 @@ fn turn(bank: &Bank, pass: &mut Pass, o: u32, table: Table, count: u64)
     requires list { WritesList (shape_of bank.now) o table (view pass.old) }
     requires early { has_committed o (view pass.old).log ≡ false }
     requires count { count ≤ slots (class_of (table_id table)) }
+    requires before { (values : List Value) × (length values ≡ count)
+        × IsPutting (class_of (table_id table)) values 0 count (stored_item values) (held_unboxed o (view pass.old)).table }
     ensures pass { IsPassOf bank.now pass.new }
     ensures stack { stack_of pass.new ≡ stack_of pass.old }
     ensures list { WritesList (shape_of bank.now) o table (view pass.new) }
-    ensures only { OnlyPut o (view pass.old) (view pass.new) }
-    ensures block { (held_words o (view pass.new)).block ≡ (held_words o (view pass.old)).block }
+    ensures only { OnlyWritten o (view pass.old) (view pass.new) }
+    ensures block { (held_unboxed o (view pass.new)).block ≡ (held_unboxed o (view pass.old)).block }
     ensures turned { (values : List Value) → length values ≡ count →
-        IsPutting (class_of (table_id table)) values 0 count (stored_item values) (held_words o (view pass.old)).table →
-        IsTurning (class_of (table_id table)) values (count / 2) (held_words o (view pass.new)).table }
+        IsPutting (class_of (table_id table)) values 0 count (stored_item values) (held_unboxed o (view pass.old)).table →
+        IsTurning (class_of (table_id table)) values (count / 2) (held_unboxed o (view pass.new)).table }
 {
     for at in 0..count / 2 {
         swap(bank, pass, o, table, count, at);
@@ -90,7 +95,8 @@ fn reverse_items(
     ensures pass { IsPassOf bank.now pass.new }
     ensures stack { stack_of pass.new ≡ stack_of pass.old }
     ensures wrote { Wrote called.now said.now result (view pass.old) (view pass.new) }
-    ensures root { root_in (held_words o (view pass.new)) ≡ root_in (held_words o (view pass.old)) }
+    ensures root { root_in (held_unboxed o (view pass.new)) ≡ root_in (held_unboxed o (view pass.old)) }
+    ensures references { SameReferences (view pass.old) (view pass.new) }
 {
     begin(bank, pass, o, table);
     turn(bank, pass, o, table, count);

@@ -14,12 +14,13 @@ ghost use Rattle.ft_layout.specs.Words.{FitsStored, IsStored};
 ghost use Rattle.ft_trace.specs.declared.Act.TheVariants.{StartWrite};
 ghost use Rattle.ft_trace.specs.Acts.{has_committed};
 ghost use Rattle.ft_trace.specs.Addresses.{class_of, slots};
-ghost use Rattle.ft_trace.specs.Holds.{held_words, known_state};
+ghost use Rattle.ft_trace.specs.Holds.{held_unboxed, known_state};
 ghost use Rattle.ft_trace.specs.Pictures.{item_field, root_in};
 ghost use Rattle.ft_bank.specs.Passes.{shape_of, view, IsPassOf, Did};
 ghost use Rattle.ft_bank.specs.PassSections.{stack_of};
 ghost use Rattle.ft_bank.specs.TableNames.{table_id, IsPlaceOf};
-ghost use Rattle.ft_bank.specs.Whole.{OnlyLoaded, OnlyPut, Wrote};
+ghost use Rattle.ft_bank.specs.SameBoxes.{SameReferences};
+ghost use Rattle.ft_bank.specs.Whole.{OnlyLoaded, OnlyWritten, Wrote};
 ghost use Rattle.ft_list.specs.ListItemWrites.{WritesList, IsPutting, known_items, stored_item};
 ghost use Rattle.ft_list.specs.Internal.Moving.{IsMoving};
 ghost use Rattle.ft_list.specs.ListWrites.{MayWriteList, Changes};
@@ -45,10 +46,10 @@ pub(crate) fn begin(bank: &Bank, pass: &mut Pass, o: u32, table: Table)
     ensures list { WritesList (shape_of bank.now) o table (view pass.new) }
     ensures putting { (first past : ℕ) →
         IsPutting (class_of (table_id table)) (known_items o (view pass.old)) first past
-        (stored_item (known_items o (view pass.old))) (held_words o (view pass.new)).table }
+        (stored_item (known_items o (view pass.old))) (held_unboxed o (view pass.new)).table }
     ensures content { (known_state o (view pass.old)).content ≡ content.List (known_items o (view pass.old)) }
     ensures table { (known_state o (view pass.old)).table ≡ record { class = Some (class_of (table_id table)); fill = 0; keys = [] } }
-    ensures head { IsBlock (held_words o (view pass.new)).block (Some (class_of (table_id table)))
+    ensures head { IsBlock (held_unboxed o (view pass.new)).block (Some (class_of (table_id table)))
         (length (known_items o (view pass.old))) 0 0 }
     ensures few { length (known_items o (view pass.old)) ≤ slots (class_of (table_id table)) }
 {
@@ -77,7 +78,8 @@ pub(crate) fn set_item(
     ensures pass { IsPassOf bank.now pass.new }
     ensures stack { stack_of pass.new ≡ stack_of pass.old }
     ensures wrote { Wrote called.now said.now result (view pass.old) (view pass.new) }
-    ensures root { root_in (held_words o (view pass.new)) ≡ root_in (held_words o (view pass.old)) }
+    ensures root { root_in (held_unboxed o (view pass.new)) ≡ root_in (held_unboxed o (view pass.old)) }
+    ensures references { SameReferences (view pass.old) (view pass.new) }
 {
     begin(bank, pass, o, table);
     let start = bank.cell_of(table);
@@ -102,16 +104,16 @@ pub(crate) fn shift_up(
     requires place { (place ≤ count) × (count < slots (class_of (table_id table))) }
     requires value { FitsStored (Plain value) }
     requires before { (values : List Value) × (length values ≡ count)
-        × IsPutting (class_of (table_id table)) values place (count + 1) (stored_item values) (held_words o (view pass.old)).table }
+        × IsPutting (class_of (table_id table)) values place (count + 1) (stored_item values) (held_unboxed o (view pass.old)).table }
     ensures pass { IsPassOf bank.now pass.new }
     ensures stack { stack_of pass.new ≡ stack_of pass.old }
     ensures list { WritesList (shape_of bank.now) o table (view pass.new) }
-    ensures only { OnlyPut o (view pass.old) (view pass.new) }
-    ensures block { (held_words o (view pass.new)).block ≡ (held_words o (view pass.old)).block }
+    ensures only { OnlyWritten o (view pass.old) (view pass.new) }
+    ensures block { (held_unboxed o (view pass.new)).block ≡ (held_unboxed o (view pass.old)).block }
     ensures moved { (values : List Value) → length values ≡ count →
-        IsPutting (class_of (table_id table)) values place (count + 1) (stored_item values) (held_words o (view pass.old)).table →
+        IsPutting (class_of (table_id table)) values place (count + 1) (stored_item values) (held_unboxed o (view pass.old)).table →
         IsMoving (class_of (table_id table)) values (insert values place value) place (count + 1) (count + 1)
-        (held_words o (view pass.new)).table }
+        (held_unboxed o (view pass.new)).table }
 {
     let start = bank.cell_of(table);
     let mut carried = Stored::Plain(value);
@@ -133,12 +135,12 @@ pub(crate) fn put_last(bank: &Bank, pass: &mut Pass, o: u32, table: Table, count
     ensures pass { IsPassOf bank.now pass.new }
     ensures stack { stack_of pass.new ≡ stack_of pass.old }
     ensures list { WritesList (shape_of bank.now) o table (view pass.new) }
-    ensures only { OnlyPut o (view pass.old) (view pass.new) }
-    ensures block { (held_words o (view pass.new)).block ≡ (held_words o (view pass.old)).block }
+    ensures only { OnlyWritten o (view pass.old) (view pass.new) }
+    ensures block { (held_unboxed o (view pass.new)).block ≡ (held_unboxed o (view pass.old)).block }
     ensures moved { (values : List Value) → length values ≡ count →
-        IsPutting (class_of (table_id table)) values count (count + 1) (stored_item values) (held_words o (view pass.old)).table →
+        IsPutting (class_of (table_id table)) values count (count + 1) (stored_item values) (held_unboxed o (view pass.old)).table →
         IsMoving (class_of (table_id table)) values (insert values count value) count (count + 1) (count + 1)
-        (held_words o (view pass.new)).table }
+        (held_unboxed o (view pass.new)).table }
 {
     let start = bank.cell_of(table);
     put_item(bank, pass, o, table, start, count, Stored::Plain(value));
@@ -167,7 +169,8 @@ pub(crate) fn add_items(
     ensures pass { IsPassOf bank.now pass.new }
     ensures stack { stack_of pass.new ≡ stack_of pass.old }
     ensures wrote { Wrote called.now reply.Done result (view pass.old) (view pass.new) }
-    ensures root { root_in (held_words o (view pass.new)) ≡ root_in (held_words o (view pass.old)) }
+    ensures root { root_in (held_unboxed o (view pass.new)) ≡ root_in (held_unboxed o (view pass.old)) }
+    ensures references { SameReferences (view pass.old) (view pass.new) }
 {
     begin(bank, pass, o, table);
     put_added(bank, pass, o, table, addition, count);
@@ -193,16 +196,16 @@ fn shift_down(bank: &Bank, pass: &mut Pass, o: u32, table: Table, place: u64, co
     requires early { has_committed o (view pass.old).log ≡ false }
     requires place { (place < count) × (count ≤ slots (class_of (table_id table))) }
     requires before { (values : List Value) × (length values ≡ count)
-        × IsPutting (class_of (table_id table)) values place count (stored_item values) (held_words o (view pass.old)).table }
+        × IsPutting (class_of (table_id table)) values place count (stored_item values) (held_unboxed o (view pass.old)).table }
     ensures pass { IsPassOf bank.now pass.new }
     ensures stack { stack_of pass.new ≡ stack_of pass.old }
     ensures list { WritesList (shape_of bank.now) o table (view pass.new) }
-    ensures only { OnlyPut o (view pass.old) (view pass.new) }
-    ensures block { (held_words o (view pass.new)).block ≡ (held_words o (view pass.old)).block }
+    ensures only { OnlyWritten o (view pass.old) (view pass.new) }
+    ensures block { (held_unboxed o (view pass.new)).block ≡ (held_unboxed o (view pass.old)).block }
     ensures moved { (values : List Value) → length values ≡ count →
-        IsPutting (class_of (table_id table)) values place count (stored_item values) (held_words o (view pass.old)).table →
+        IsPutting (class_of (table_id table)) values place count (stored_item values) (held_unboxed o (view pass.old)).table →
         IsMoving (class_of (table_id table)) values (remove values place) place count count
-        (held_words o (view pass.new)).table }
+        (held_unboxed o (view pass.new)).table }
 {
     let start = bank.cell_of(table);
     for at in place..count {
@@ -229,9 +232,9 @@ fn item_or_none(
     ensures stack { stack_of pass.new ≡ stack_of pass.old }
     ensures list { WritesList (shape_of bank.now) o table (view pass.new) }
     ensures only { OnlyLoaded (view pass.old) (view pass.new) }
-    ensures held { held_words o (view pass.new) ≡ held_words o (view pass.old) }
+    ensures held { held_unboxed o (view pass.new) ≡ held_unboxed o (view pass.old) }
     ensures stored { (stored : Stored) → (place < count → IsStored
-        (item_field (held_words o (view pass.old)).table place 1) (item_field (held_words o (view pass.old)).table place 2) stored) →
+        (item_field (held_unboxed o (view pass.old)).table place 1) (item_field (held_unboxed o (view pass.old)).table place 2) stored) →
         (count ≤ place → stored ≡ Empty) → result ≡ stored }
     ensures fits { FitsStored result }
 {
@@ -264,7 +267,8 @@ pub(crate) fn remove_item(
     ensures pass { IsPassOf bank.now pass.new }
     ensures stack { stack_of pass.new ≡ stack_of pass.old }
     ensures wrote { Wrote called.now said.now result (view pass.old) (view pass.new) }
-    ensures root { root_in (held_words o (view pass.new)) ≡ root_in (held_words o (view pass.old)) }
+    ensures root { root_in (held_unboxed o (view pass.new)) ≡ root_in (held_unboxed o (view pass.old)) }
+    ensures references { SameReferences (view pass.old) (view pass.new) }
 {
     begin(bank, pass, o, table);
     shift_down(bank, pass, o, table, place, count);

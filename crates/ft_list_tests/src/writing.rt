@@ -3,6 +3,7 @@ ghost use Rattle.std.specs.Prelude.{◌≡◌, ℕ, ◌<◌, true, false, IfSome
 ghost use Rattle.ft_model.specs.declared.script.Kind.TheVariants as kind;
 ghost use Rattle.ft_trace.specs.Acts.{has_committed, has_lock, is_writing};
 ghost use Rattle.ft_trace.specs.Addresses.{class_of, container_count, slots};
+ghost use Rattle.ft_trace.specs.Boxes.{IsDoneWithBoxes};
 ghost use Rattle.ft_trace.specs.Pictures.{item_offset};
 ghost use Rattle.ft_trace.specs.ContainerStates.{kind_in};
 ghost use Rattle.ft_bank.specs.Passes.{shape_of, view, IsPassOf};
@@ -40,6 +41,7 @@ fn begin(bank: &Bank, writer: &mut Pass, l: u32) -> Option<Table>
     requires list { kind_in (shape_of bank.now).starts l ≡ kind.List }
     requires locked { has_lock l (view writer.old).log ≡ true }
     requires even { (p : ℕ) → is_writing p (view writer.old).log ≡ false }
+    requires boxes { IsDoneWithBoxes (view writer.old).shape (view writer.old).log }
     ensures pass { IsPassOf bank.now writer.new }
     ensures list { IfSome result (λ table. WritesList (shape_of bank.now) l table (view writer.new)) }
     ensures early { has_committed l (view writer.new).log ≡ false }

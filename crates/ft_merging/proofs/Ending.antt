@@ -1,5 +1,5 @@
 -- That the versions of the entries that a write put may be made even after its commit, one after the other.
-use Rattle.std.proofs.Common.{◌≡◌, ◌≢◌, ◌⊎◌, ℕ, zero, suc, ◌+◌, ◌%◌, ◌<◌, ◌≤◌, Bool, List, [], ◌∷◌, length, Option, Some, refl, sym, ap, ◌∙◌, subst, inl, inr, ⊎_elim, arith, get_or-set_same, get_or-set_other}
+use Rattle.std.proofs.Common.{◌≡◌, ◌≢◌, ◌⊎◌, ℕ, zero, suc, ◌+◌, ◌%◌, ◌<◌, ◌≤◌, Bool, true, List, [], ◌∷◌, length, Option, Some, refl, sym, ap, ◌∙◌, subst, inl, inr, ⊎_elim, arith, get_or-set_same, get_or-set_other}
 use Rattle.std.specs.Prelude.{slice_index, slice_set}
 use mathlib.Core.Logic.{dite}
 use native.Mathlib.Decide.{ℕ_discrete}
@@ -24,9 +24,10 @@ use Rattle.ft_trace.specs.declared.Shape.{Shape}
 use Rattle.ft_trace.specs.declared.Snap.{Snap}
 use Rattle.ft_trace.specs.declared.View.{View}
 use Rattle.ft_trace.specs.Acts.{has_lock, has_committed, is_writing, view_after, seen_writes}
-use Rattle.ft_trace.specs.Addresses.{class_of, slots, places}
+use Rattle.ft_trace.specs.Addresses.{container_count, class_of, slots, places}
+use Rattle.ft_trace.specs.Boxes.{IsDoneWithBoxes}
 use Rattle.ft_trace.specs.Carefuls.{said_of, IsDead, HasLiveKey, OpensChanged}
-use Rattle.ft_trace.specs.Holds.{held_words, known_state}
+use Rattle.ft_trace.specs.Holds.{held_unboxed, known_state}
 use Rattle.ft_trace.specs.Kinds.{under, rows, version_at, CarefulAs, ClearAs, IsKeyed}
 use Rattle.ft_trace.specs.OddVersions.{Shut, Timely}
 use Rattle.ft_trace.specs.Traces.{IsReachable}
@@ -41,10 +42,11 @@ use Rattle.ft_bank.specs.declared.table.Table.{Table}
 use Rattle.ft_bank.specs.TableNames.{table_id}
 use Rattle.ft_bank.specs.Whole.{EndsWrite, OnlyLoaded, OnlyPut}
 use Rattle.ft_bank.specs.WriteSteps.{Committed, IsCareful, IsShut, with_table}
-use Rattle.ft_bank.proofs.KnownAfterWrites.{loaded_held, loaded_put, work_knows, write_ends}
+use Rattle.ft_bank.specs.SameBoxes.{SameReferences}
+use Rattle.ft_bank.proofs.KnownAfterWrites.{loaded_put, work_knows, write_ends}
 use Rattle.ft_search.specs.OneEntryWrites.{raised_at}
 use Rattle.ft_search.proofs.Changing.{kind_is}
-use Rattle.ft_search.proofs.Puts.{keyed_version, table_class, writes_on}
+use Rattle.ft_search.proofs.Puts.{entry_refs, few_done, keyed_version, table_class, writes_on}
 use Rattle.ft_merging.specs.Internal.EntriesAtOnce.{IsClosing, MayFinishAll, NoneDead, version_of}
 
 -- ---- what words say that stand for a dict or a set
@@ -166,19 +168,26 @@ module _ (t m : ℕ) (x : ContainerWords) (p : ℕ) (low : entry_offset (slots (
 
 -- ---- what the pass knows
 
-module _ (k : Shape) (o : ℕ) (table : Table) (from fill : ℕ) (v w : View) (only : OnlyLoaded v w) (closing : IsClosing k o table from fill v) where
+-- loads leave what a container reads whose lock the pass has
+pub read_same : (k : Shape) (o : ℕ) (v w : View) → v.shape ≡ k → o < container_count k → has_lock o v.log ≡ true → OnlyLoaded v w → held_unboxed o w ≡ held_unboxed o v
+read_same k o v w shape low mine only = only.unboxed o (subst (λ (z : Shape). o < container_count z) (sym shape) low) mine
+
+module _ (k : Shape) (o : ℕ) (table : Table) (from fill : ℕ) (v w : View) (shape : v.shape ≡ k) (only : OnlyLoaded v w) (closing : IsClosing k o table from fill v) where
   abbrev lt : ℕ
   lt = table_id table
 
   abbrev lm : ℕ
   lm = rows (kind_in k.starts o) (class_of lt)
 
-  held_back : held_words o v ≡ held_words o w
-  held_back = sym (loaded_held v w o only)
+  held_same : held_unboxed o w ≡ held_unboxed o v
+  held_same = read_same k o v w shape closing.writes.container closing.writes.locked only
+
+  held_back : held_unboxed o v ≡ held_unboxed o w
+  held_back = sym held_same
 
   pub closing_loaded : IsClosing k o table from fill w
   closing_loaded = record {
-    writes = writes_on k o table v w (loaded_put v w o only) (ap root_in (loaded_held v w o only)) closing.writes;
+    writes = writes_on k o table v w shape (loaded_put v w o only) only.boxes.references (ap root_in held_same) closing.writes;
     late = only.work.committed o ∙ closing.late;
     stands = subst (λ (y : ContainerWords × ContainerState). Represents k.texts y.0 y.1) (λ d. (held_back d, sym (work_knows v w o only.work) d)) closing.stands;
     gone = subst (λ (y : ContainerWords × ContainerState). NoneDead lt lm y.0 y.1) (λ d. (held_back d, sym (work_knows v w o only.work) d)) closing.gone;
@@ -208,34 +217,35 @@ module _ (laws : Laws) (k : Shape) (o : ℕ) (table : Table) (place fill : ℕ) 
   class_is : IsClass (class_of ct)
   class_is = table_class k table closing.writes.table_in
 
-  inside : at < length (held_words o v).table
+  inside : at < length (held_unboxed o v).table
   inside = subst (λ (z : ℕ). at < z) (sym (table_is_long v o ct closing.writes.root)) (keyed_low (kind_in k.starts o) closing.writes.keyed (class_of ct) place 0 low (omega arith))
 
   -- the version may be made even
-  pub closing_care : version_of ct (held_words o v) place % 2 ≡ 1 → IsCareful v o ct at (entry_field cn (held_words o v).table place 0 + 1)
+  pub closing_care : version_of ct (held_unboxed o v) place % 2 ≡ 1 → IsCareful v o ct at (entry_field cn (held_unboxed o v).table place 0 + 1)
   closing_care odd =
-      let care = close_of laws k.texts (held_words o v) ct class_is closing.writes.root (known_state o v).content (known_state o v) refl is_keyed closing.stands place (subst (λ (z : Kind). place < rows z (class_of ct)) (sym kind_eq) low) odd (λ key dead. closing.gone place key low odd dead) in
+      let care = close_of laws k.texts (held_unboxed o v) ct class_is closing.writes.root (known_state o v).content (known_state o v) refl is_keyed closing.stands place (subst (λ (z : Kind). place < rows z (class_of ct)) (sym kind_eq) low) odd (λ key dead. closing.gone place key low odd dead) in
       record {
-        care = subst (λ (z : Kind). CarefulAs z (class_of ct) (held_words o v).table (known_state o v).content at (entry_field cn (held_words o v).table place 0 + 1)) (kind_eq ∙ sym (ap (λ (z : Shape). kind_in z.starts o) shape)) care;
-        timely = subst (λ (b : Bool). Timely (version_at (kind_in v.shape.starts o) (class_of ct)) (rows (kind_in v.shape.starts o) (class_of ct)) at (entry_field cn (held_words o v).table place 0 + 1) b) (sym closing.late)
+        care = subst (λ (z : Kind). CarefulAs z (class_of ct) (held_unboxed o v).table (known_state o v).content at (entry_field cn (held_unboxed o v).table place 0 + 1)) (kind_eq ∙ sym (ap (λ (z : Shape). kind_in z.starts o) shape)) care;
+        timely = subst (λ (b : Bool). Timely (version_at (kind_in v.shape.starts o) (class_of ct)) (rows (kind_in v.shape.starts o) (class_of ct)) at (entry_field cn (held_unboxed o v).table place 0 + 1) b) (sym closing.late)
             (record { before = λ q less is one. absurd (omega (arith, one, odd)); later = λ q less is two. refl });
+        references = entry_refs v o ct place 0 (entry_field cn (held_unboxed o v).table place 0 + 1) (subst (λ (z : Shape). IsKeyed (kind_in z.starts o)) (sym shape) closing.writes.keyed) (omega arith) (λ e. absurd (omega (arith, e))) (λ e. absurd (omega (arith, e))) (few_done k v shape closing.writes.boxes);
       }
 
-  pub closing_raised : dict.EntryVersionsChangeNothing → (z : View) → OnlyPut o v z → held_words o z ≡ raised_at ct place (held_words o v) → version_of ct (held_words o v) place % 2 ≡ 1 → IsClosing k o table (place + 1) fill z
-  closing_raised versions z only held_is odd =
-      let back : raised_at ct place (held_words o v) ≡ held_words o z = sym held_is in
+  pub closing_raised : dict.EntryVersionsChangeNothing → (z : View) → OnlyPut o v z → SameReferences v z → held_unboxed o z ≡ raised_at ct place (held_unboxed o v) → version_of ct (held_unboxed o v) place % 2 ≡ 1 → IsClosing k o table (place + 1) fill z
+  closing_raised versions z only references held_is odd =
+      let back : raised_at ct place (held_unboxed o v) ≡ held_unboxed o z = sym held_is in
       let knows = sym (work_knows v z o only.work) in
       record {
-        writes = writes_on k o table v z only (ap root_in held_is) closing.writes;
+        writes = writes_on k o table v z shape only references (ap root_in held_is) closing.writes;
         late = only.work.committed o ∙ closing.late;
-        stands = subst (λ (y : ContainerWords × ContainerState). Represents k.texts y.0 y.1) (λ d. (back d, knows d)) (version_put laws k.texts (held_words o v) ct class_is closing.writes.root versions (known_state o v).content (known_state o v) refl is_keyed closing.stands place (entry_field cn (held_words o v).table place 0 + 1));
-        gone = subst (λ (y : ContainerWords × ContainerState). NoneDead ct cm y.0 y.1) (λ d. (back d, knows d)) (raised_dead ct cm (held_words o v) place inside odd (known_state o v) closing.gone);
-        opened = subst (λ (y : ContainerWords). (p : ℕ) → p < cm → version_of ct y p % 2 ≡ 1 → p < fill) back (raised_opened ct cm (held_words o v) place inside odd fill closing.opened);
-        shut = subst (λ (y : ContainerWords). (p : ℕ) → p < cm → p < place + 1 → version_of ct y p % 2 ≡ 0) back (raised_shut ct cm (held_words o v) place inside odd closing.shut);
+        stands = subst (λ (y : ContainerWords × ContainerState). Represents k.texts y.0 y.1) (λ d. (back d, knows d)) (version_put laws k.texts (held_unboxed o v) ct class_is closing.writes.root versions (known_state o v).content (known_state o v) refl is_keyed closing.stands place (entry_field cn (held_unboxed o v).table place 0 + 1));
+        gone = subst (λ (y : ContainerWords × ContainerState). NoneDead ct cm y.0 y.1) (λ d. (back d, knows d)) (raised_dead ct cm (held_unboxed o v) place inside odd (known_state o v) closing.gone);
+        opened = subst (λ (y : ContainerWords). (p : ℕ) → p < cm → version_of ct y p % 2 ≡ 1 → p < fill) back (raised_opened ct cm (held_unboxed o v) place inside odd fill closing.opened);
+        shut = subst (λ (y : ContainerWords). (p : ℕ) → p < cm → p < place + 1 → version_of ct y p % 2 ≡ 0) back (raised_shut ct cm (held_unboxed o v) place inside odd closing.shut);
       }
 
   -- it is even
-  pub closing_even : version_of ct (held_words o v) place % 2 ≡ 0 → IsClosing k o table (place + 1) fill v
+  pub closing_even : version_of ct (held_unboxed o v) place % 2 ≡ 0 → IsClosing k o table (place + 1) fill v
   closing_even even = record {
     writes = closing.writes;
     late = closing.late;
@@ -245,7 +255,7 @@ module _ (laws : Laws) (k : Shape) (o : ℕ) (table : Table) (place fill : ℕ) 
     shut = λ p less up.
         dite (dec_lt p place)
         (λ (before : p < place). closing.shut p less before)
-        (λ past. let same : place ≡ p = omega (arith, past, up) in subst (λ (q : ℕ). version_of ct (held_words o v) q % 2 ≡ 0) same even);
+        (λ past. let same : place ≡ p = omega (arith, past, up) in subst (λ (q : ℕ). version_of ct (held_unboxed o v) q % 2 ≡ 0) same even);
   }
 
 -- ---- the commit
@@ -257,8 +267,8 @@ module _ (k : Shape) (o : ℕ) (table : Table) (fill : ℕ) (called : Call) (sai
   abbrev fm : ℕ
   fm = rows (kind_in k.starts o) (class_of ft)
 
-  held_then : held_words o u ≡ held_words o w
-  held_then = sym (ap (held_words o) is)
+  held_then : held_unboxed o u ≡ held_unboxed o w
+  held_then = sym (ap (held_unboxed o) is)
 
   known_then : m.left ≡ known_state o w
   known_then = sym (committed.left o ∙ m.left_is committed.found committed.has)
@@ -273,7 +283,8 @@ module _ (k : Shape) (o : ℕ) (table : Table) (fill : ℕ) (called : Call) (sai
           table_in = b.writes.table_in;
           locked = ap (λ (z : View). has_lock o z.log) is ∙ b.writes.locked;
           odd = ap (λ (z : View). is_writing o z.log) is ∙ b.writes.odd;
-          root = ap (λ (z : View). root_in (held_words o z)) is ∙ b.writes.root;
+          root = ap (λ (z : View). root_in (held_unboxed o z)) is ∙ b.writes.root;
+          boxes = subst (λ (z : View). IsDoneWithBoxes k z.log) (sym is) b.writes.boxes;
         };
         late = ap (λ (z : View). has_committed o z.log) is;
         stands = subst (λ (y : ContainerWords × ContainerState). Represents k.texts y.0 y.1) (λ d. (held_then d, known_then d)) b.stands;
@@ -285,11 +296,11 @@ module _ (k : Shape) (o : ℕ) (table : Table) (fill : ℕ) (called : Call) (sai
   pub closing_ends : (z : View) → OnlyPut o w z → IsClosing k o table fill fill z → u.shape ≡ k → (stop : ℕ) (x : View) → seen_writes u ≤ number → x ≡ view_after (StopWrite o stop) z → EndsWrite called said number u x
   closing_ends z only closing shape stop x seen stopped =
       let at : o ≡ changes called = sym m.changed in
-      let stands : Represents u.shape.texts (held_words o z) (known_state o z) = subst (λ (y : Shape). Represents y.texts (held_words o z) (known_state o z)) (sym shape) closing.stands in
+      let stands : Represents u.shape.texts (held_unboxed o z) (known_state o z) = subst (λ (y : Shape). Represents y.texts (held_unboxed o z) (known_state o z)) (sym shape) closing.stands in
       write_ends called said number stop snap u w z x seen is committed m.may.left
       (subst (λ (p : ℕ). OnlyPut p w z) at only)
-      (subst (λ (p : ℕ). root_in (held_words p z) ≡ root_in (held_words p u)) at (closing.writes.root ∙ sym m.midway.writes.root))
-      (subst (λ (p : ℕ). Represents u.shape.texts (held_words p z) (known_state p z)) at stands)
+      (subst (λ (p : ℕ). root_in (held_unboxed p z) ≡ root_in (held_unboxed p u)) at (closing.writes.root ∙ sym m.midway.writes.root))
+      (subst (λ (p : ℕ). Represents u.shape.texts (held_unboxed p z) (known_state p z)) at stands)
       (subst (λ (p : ℕ). x ≡ view_after (StopWrite p stop) z) at stopped)
 
 -- no version is odd then
@@ -298,8 +309,8 @@ closing_shut k o table fill v shape closing q names =
     let t = table_id table in
     let same : t ≡ q = let e : suc t ≡ suc q = sym closing.writes.root ∙ names in omega (arith, e) in
     let m = rows (kind_in k.starts o) (class_of t) in
-    let here : Shut (version_at (kind_in k.starts o) (class_of t)) m (held_words o v).table =
+    let here : Shut (version_at (kind_in k.starts o) (class_of t)) m (held_unboxed o v).table =
     λ p less.
-    let even : version_of t (held_words o v) p % 2 ≡ 0 = ⊎_elim (λ (e : version_of t (held_words o v) p % 2 ≡ 0). e) (λ (odd : version_of t (held_words o v) p % 2 ≡ 1). closing.shut p less (closing.opened p less odd)) (parity (version_of t (held_words o v) p)) in
-    subst (λ (i : ℕ). slice_index (held_words o v).table i % 2 ≡ 0) (sym (keyed_version (kind_in k.starts o) closing.writes.keyed (class_of t) p)) even in
-    subst (λ (y : Shape × ℕ). Shut (version_at (kind_in y.0.starts o) (class_of y.1)) (rows (kind_in y.0.starts o) (class_of y.1)) (held_words o v).table) (λ d. (sym shape d, same d)) here
+    let even : version_of t (held_unboxed o v) p % 2 ≡ 0 = ⊎_elim (λ (e : version_of t (held_unboxed o v) p % 2 ≡ 0). e) (λ (odd : version_of t (held_unboxed o v) p % 2 ≡ 1). closing.shut p less (closing.opened p less odd)) (parity (version_of t (held_unboxed o v) p)) in
+    subst (λ (i : ℕ). slice_index (held_unboxed o v).table i % 2 ≡ 0) (sym (keyed_version (kind_in k.starts o) closing.writes.keyed (class_of t) p)) even in
+    subst (λ (y : Shape × ℕ). Shut (version_at (kind_in y.0.starts o) (class_of y.1)) (rows (kind_in y.0.starts o) (class_of y.1)) (held_unboxed o v).table) (λ d. (sym shape d, same d)) here

@@ -21,16 +21,16 @@ use Rattle.ft_trace.specs.declared.View.{View}
 use Rattle.ft_trace.specs.Acts.{has_emptied, is_writing, owes}
 use Rattle.ft_trace.specs.Addresses.{class_of, container_count, slots}
 use Rattle.ft_trace.specs.Carefuls.{HasLiveKey, OpensChanged}
-use Rattle.ft_trace.specs.Holds.{held_words, known_state}
+use Rattle.ft_trace.specs.Holds.{held_unboxed, known_state}
 use Rattle.ft_trace.specs.Kinds.{ClearAs, IsKeyed, rows, under}
 use Rattle.ft_trace.specs.Pictures.{ContainerWords, root_in}
 use Rattle.ft_trace.specs.ContainerStates.{ContainerState, changes, state_at, kind_in, reply_in}
 use Rattle.ft_trace.specs.WholeWrites.{MayPuts, with_puts}
 use Rattle.ft_bank.specs.declared.table.Table.{Table}
 use Rattle.ft_bank.specs.TableNames.{table_id}
-use Rattle.ft_bank.specs.Whole.{OnlyLoaded, OnlyPut}
+use Rattle.ft_bank.specs.Whole.{OnlyLoaded, OnlyWritten}
 use Rattle.ft_bank.specs.WriteSteps.{MayCommit, MayHave}
-use Rattle.ft_bank.proofs.KnownAfterWrites.{loaded_held, work_knows}
+use Rattle.ft_bank.proofs.KnownAfterWrites.{work_knows}
 use Rattle.ft_search.specs.Held.{IsHeldAt}
 use Rattle.ft_search.specs.Rounds.{kind_by}
 use Rattle.ft_search.specs.OneEntryWrites.{WritesEntries}
@@ -38,7 +38,7 @@ use Rattle.ft_search.proofs.Calling.{plain_replied}
 use Rattle.ft_search.proofs.Puts.{table_class}
 use Rattle.ft_search.proofs.OtherValues.{ValueLaws}
 use Rattle.ft_new_keys.specs.declared.counts.Counts.{Counts}
-use Rattle.ft_new_keys.specs.KeyGrowth.{IsFreeFor, holds, most_of}
+use Rattle.ft_new_keys.specs.KeyGrowth.{IsFreeFor, KnowsKeyed, holds, most_of}
 use Rattle.ft_new_keys.specs.Placing.{StoresAs, with_key}
 use Rattle.ft_new_keys.specs.Internal.Laying.{with_entry}
 use Rattle.ft_new_keys.proofs.FinishedKeys.{Since, has_since}
@@ -47,7 +47,7 @@ use Rattle.ft_new_keys.proofs.Wanted.{most_few}
 use Rattle.ft_merging.specs.Joining.{JoinsKeys, joined, joined_state, new_keys}
 use Rattle.ft_merging.specs.Internal.JoiningSteps.{AreLeft, IsJoining, NoneAhead, NoneGone, NoneOf, lacking, stored_puts}
 use Rattle.ft_merging.specs.Internal.EntriesAtOnce.{IsMidway, MayFinishAll, version_of}
-use Rattle.ft_merging.proofs.Ending.{Laws, clear_of, parity}
+use Rattle.ft_merging.proofs.Ending.{Laws, clear_of, parity, read_same}
 use Rattle.ft_merging.proofs.JoinedContents.{counts_more, counts_same, joined_counts, kind_with, left_dead, left_new, left_stores, left_there, rest_none, empty_of, new_still}
 use Rattle.ft_merging.proofs.JoinedReads.{Source, holds_none}
 use Rattle.ft_merging.proofs.JoinedStep.{ahead_put, alive_put, midway_put, lacks_mid}
@@ -56,13 +56,13 @@ use Rattle.ft_merging.proofs.Thinned.{midway_loaded}
 
 -- ---- after loads
 
-pub joining_loaded : (k : Shape) (o : ℕ) (by : Way) (own : Table) (t : ℕ) (table : Table) (goal : Content) (end place : ℕ) (counts : Counts) (v w : View) → OnlyLoaded v w → IsJoining k o by own t table goal end place counts v → IsJoining k o by own t table goal end place counts w
-joining_loaded k o by own t table goal end place counts v w only j =
-    let other : held_words t v ≡ held_words t w = sym (loaded_held v w t only) in
-    let mine : held_words o v ≡ held_words o w = sym (loaded_held v w o only) in
+pub joining_loaded : (k : Shape) (o : ℕ) (by : Way) (own : Table) (t : ℕ) (table : Table) (goal : Content) (end place : ℕ) (counts : Counts) (v w : View) → v.shape ≡ k → OnlyLoaded v w → KnowsKeyed k t (Some table) v → IsJoining k o by own t table goal end place counts v → IsJoining k o by own t table goal end place counts w
+joining_loaded k o by own t table goal end place counts v w shape only knows j =
+    let other : held_unboxed t v ≡ held_unboxed t w = sym (read_same k t v w shape knows.container knows.locked only) in
+    let mine : held_unboxed o v ≡ held_unboxed o w = sym (read_same k o v w shape j.midway.writes.container j.midway.writes.locked only) in
     record {
       mid = j.mid;
-      midway = midway_loaded k o own (record { content = j.mid; table = use_with (class_of (table_id own)) counts.fill }) v w only j.midway;
+      midway = midway_loaded k o own (record { content = j.mid; table = use_with (class_of (table_id own)) counts.fill }) v w shape only j.midway;
       kept = subst (λ (z : ContainerState). (key : Key) → under z.content key ≢ [] → under j.mid key ≢ []) (sym (work_knows v w o only.work)) j.kept;
       same_kind = j.same_kind;
       kind_is = j.kind_is;
@@ -96,10 +96,10 @@ module _ (k : Shape) (o : ℕ) (by : Way) (own : Table) (t : ℕ) (table : Table
   abbrev m : ℕ
   m = rows (kind_in k.starts o) (class_of (table_id own))
 
-  ahead_here : NoneAhead (table_id own) m (held_words o v) (e ∷ later)
-  ahead_here = subst (NoneAhead (table_id own) m (held_words o v)) (drop_more j.used place any inside) j.ahead
+  ahead_here : NoneAhead (table_id own) m (held_unboxed o v) (e ∷ later)
+  ahead_here = subst (NoneAhead (table_id own) m (held_unboxed o v)) (drop_more j.used place any inside) j.ahead
 
-  ahead_later : NoneAhead (table_id own) m (held_words o v) later
+  ahead_later : NoneAhead (table_id own) m (held_unboxed o v) later
   ahead_later p key less odd fits live i d few = ahead_here p key less odd fits live (suc i) d (omega (arith, few))
 
   -- it was deleted
@@ -130,24 +130,24 @@ module _ (k : Shape) (o : ℕ) (by : Way) (own : Table) (t : ℕ) (table : Table
     none_later = rest_none (record { key = key; serial = e.serial; stored = Some stored }) later refl (step key (Some stored) same is).apart
 
     -- its key is there, at this place
-    module _ (laws : ValueLaws) (fits : FitsKey key) (ok : FitsStored stored) (at : ℕ) (room : at < rows (kind_by by) (class_of (table_id own))) (live : HasLiveKey (slots (class_of (table_id own))) (held_words o v).table at key) where
+    module _ (laws : ValueLaws) (fits : FitsKey key) (ok : FitsStored stored) (at : ℕ) (room : at < rows (kind_by by) (class_of (table_id own))) (live : HasLiveKey (slots (class_of (table_id own))) (held_unboxed o v).table at key) where
       pub there_low : at < m
       there_low = subst (λ (y : Kind). at < rows y (class_of (table_id own))) (sym j.kind_is) room
 
       -- it isn't written yet
-      even : version_of (table_id own) (held_words o v) at % 2 ≡ 0
+      even : version_of (table_id own) (held_unboxed o v) at % 2 ≡ 0
       even =
-          ⊎_elim (λ (two : version_of (table_id own) (held_words o v) at % 2 ≡ 0). two)
-          (λ (odd : version_of (table_id own) (held_words o v) at % 2 ≡ 1). absurd (ahead_here at key there_low odd fits live 0 e (omega arith) (ap is_some is) (sym same)))
-          (parity (version_of (table_id own) (held_words o v) at))
+          ⊎_elim (λ (two : version_of (table_id own) (held_unboxed o v) at % 2 ≡ 0). two)
+          (λ (odd : version_of (table_id own) (held_unboxed o v) at % 2 ≡ 1). absurd (ahead_here at key there_low odd fits live 0 e (omega arith) (ap is_some is) (sym same)))
+          (parity (version_of (table_id own) (held_unboxed o v) at))
 
       kinds : kind_of j.mid ≡ kind_in k.starts o
       kinds = j.same_kind ∙ sym j.kind_is
 
-      pub joining_may : (before : Content) → MayPuts (kind_in k.starts o) (table_id own) before false (held_words o v) (stored_puts (slots (class_of (table_id own))) (held_words o v).table at stored)
+      pub joining_may : (before : Content) → MayPuts (kind_in k.starts o) (table_id own) before false (held_unboxed o v) (stored_puts (slots (class_of (table_id own))) (held_unboxed o v).table at stored)
       joining_may before = there_may laws k o own counts.fill v at key fits there_low live even j.mid stored j.midway kinds stores ok before
 
-      pub joining_there : holds j.mid key ≡ true → (z : View) → OnlyPut o v z → held_words o z ≡ with_puts (held_words o v) (stored_puts (slots (class_of (table_id own))) (held_words o v).table at stored) → WritesEntries k o own z → held_words t z ≡ held_words t v → IsJoining k o by own t table goal end (place + 1) counts z
+      pub joining_there : holds j.mid key ≡ true → (z : View) → OnlyWritten o v z → held_unboxed o z ≡ with_puts (held_unboxed o v) (stored_puts (slots (class_of (table_id own))) (held_unboxed o v).table at stored) → WritesEntries k o own z → held_unboxed t z ≡ held_unboxed t v → IsJoining k o by own t table goal end (place + 1) counts z
       joining_there there z only words writes other =
           let put = there_put laws k o own counts.fill v at key fits there_low live even j.mid stored j.midway kinds stores ok there j.alive z only words writes in
           let more = counts_same j.mid key stored stores there in
@@ -184,7 +184,7 @@ module _ (k : Shape) (o : ℕ) (by : Way) (own : Table) (t : ℕ) (table : Table
       pub new_few : (counts.count < 65536) × (counts.next + 1 < 2 ^ 63)
       new_few = let a = next.2 in let b = next.3 in let c = j.count_is in let d = j.next_is in (omega (arith, a, c), omega (arith, b, d))
 
-      module _ (laws : PlaceLaws) (slot : ℕ) (fits : FitsKey key) (hash : hash_of k.texts key < 2 ^ 64) (ok : FitsStored stored) (free : IsFreeFor k.texts by own.class key (held_words o v).table slot) (z : View) (only : OnlyPut o v z) (words : held_words o z ≡ with_entry (table_id own) slot counts (pair_for k.texts j.mid key stored) (held_words o v)) (writes : WritesEntries k o own z) (other : held_words t z ≡ held_words t v) where
+      module _ (laws : PlaceLaws) (slot : ℕ) (fits : FitsKey key) (hash : hash_of k.texts key < 2 ^ 64) (ok : FitsStored stored) (free : IsFreeFor k.texts by own.class key (held_unboxed o v).table slot) (z : View) (only : OnlyWritten o v z) (words : held_unboxed o z ≡ with_entry (table_id own) slot counts (pair_for k.texts j.mid key stored) (held_unboxed o v)) (writes : WritesEntries k o own z) (other : held_unboxed t z ≡ held_unboxed t v) where
         room_by : counts.fill < rows (kind_by by) (class_of (table_id own))
         room_by = subst (λ (y : Kind). counts.fill < rows y (class_of (table_id own))) j.kind_is new_room
 
@@ -232,7 +232,7 @@ joined_more k by t table v s d same_kind =
     (n, omega (arith, r), r)
 
 pub joining_begins : (k : Shape) (o : ℕ) (by : Way) (own : Table) (t : ℕ) (table : Table) (d : Content) (counts : Counts) (more : ℕ) (u : View) → IsMidway k o own (record { content = d; table = use_with (class_of (table_id own)) counts.fill }) u → kind_of d ≡ kind_by by → kind_in k.starts o ≡ kind_by by → counts.count ≡ length_of d → counts.next ≡ serial_of d
-    → NoneGone (table_id own) (rows (kind_in k.starts o) (class_of (table_id own))) (held_words o u) → ((p : ℕ) → p < rows (kind_in k.starts o) (class_of (table_id own)) → version_of (table_id own) (held_words o u) p % 2 ≡ 0) → Source k by t table u → passes_cap (joined d (known_state t u).content) ≡ false → serial_of d + 65536 < 2 ^ 63 → more ≡ new_keys d (known_state t u).content → counts.fill + more ≤ rows (kind_in k.starts o) (class_of (table_id own)) → d ≡ (known_state o u).content
+    → NoneGone (table_id own) (rows (kind_in k.starts o) (class_of (table_id own))) (held_unboxed o u) → ((p : ℕ) → p < rows (kind_in k.starts o) (class_of (table_id own)) → version_of (table_id own) (held_unboxed o u) p % 2 ≡ 0) → Source k by t table u → passes_cap (joined d (known_state t u).content) ≡ false → serial_of d + 65536 < 2 ^ 63 → more ≡ new_keys d (known_state t u).content → counts.fill + more ≤ rows (kind_in k.starts o) (class_of (table_id own)) → d ≡ (known_state o u).content
     → IsJoining k o by own t table (joined d (known_state t u).content) (counts.fill + more) 0 counts u
 joining_begins k o by own t table d counts more u midway same_kind kind_eq count_is next_is alive evens s cap serials more_is room is_known =
     let j = joined_more k by t table u s d same_kind in
@@ -302,18 +302,18 @@ module _ (laws : Laws) (k : Shape) (o : ℕ) (by : Way) (own : Table) (t : ℕ) 
   left_since : (found : StoredWorld) → MayHave u found → state_at (after_stored found called) o ≡ left
   left_since found has = joins.left_is found (has_since o v u since found has)
 
-  here : ClearAs (kind_of goal) k.texts c (held_words o u).table (known_state o v).content goal
+  here : ClearAs (kind_of goal) k.texts c (held_unboxed o u).table (known_state o v).content goal
   here =
-      clear_of laws k.texts (held_words o u) (table_id own) (table_class k own midway.writes.table_in) midway.writes.root goal left refl (subst IsKeyed (sym (kind_goal ∙ sym j.kind_is)) midway.writes.keyed) midway.stands (known_state o v).content
+      clear_of laws k.texts (held_unboxed o u) (table_id own) (table_class k own midway.writes.table_in) midway.writes.root goal left refl (subst IsKeyed (sym (kind_goal ∙ sym j.kind_is)) midway.writes.keyed) midway.stands (known_state o v).content
       (λ p key less even live. midway.same p key (subst (λ (z : Kind). p < rows z c) (kind_goal ∙ sym j.kind_is) less) even live ∙ ap (λ (z : ContainerState). under z.content key) (since.knows o))
-      (subst (λ (z : Kind × ContainerState). OpensChanged (slots c) (rows z.0 c) (held_words o u).table (under z.1.content) (under goal)) (λ d. ((j.kind_is ∙ sym kind_goal) d, since.knows o d)) midway.opens)
+      (subst (λ (z : Kind × ContainerState). OpensChanged (slots c) (rows z.0 c) (held_unboxed o u).table (under z.1.content) (under goal)) (λ d. ((j.kind_is ∙ sym kind_goal) d, since.knows o d)) midway.opens)
 
-  clears : (found : StoredWorld) (q : ℕ) → MayHave u found → root_in (held_words o u) ≡ suc q → ClearAs (kind_in u.shape.starts o) u.shape.texts (class_of q) (held_words o u).table (known_state o u).content (state_at (after_stored found called) o).content
+  clears : (found : StoredWorld) (q : ℕ) → MayHave u found → root_in (held_unboxed o u) ≡ suc q → ClearAs (kind_in u.shape.starts o) u.shape.texts (class_of q) (held_unboxed o u).table (known_state o u).content (state_at (after_stored found called) o).content
   clears found q has names =
       let same : table_id own ≡ q = let e : suc (table_id own) ≡ suc q = sym midway.writes.root ∙ names in omega (arith, e) in
       let l = left_since found has in
-      subst (λ (n : ℕ). ClearAs (kind_in u.shape.starts o) u.shape.texts (class_of n) (held_words o u).table (known_state o u).content (state_at (after_stored found called) o).content) same
-      (subst (λ (z : Kind × List ℕ × ContainerState × ContainerState). ClearAs z.0 z.1 c (held_words o u).table z.2.content z.3.content) (λ d. (kind_u d, texts_u d, sym (since.knows o) d, sym l d)) here)
+      subst (λ (n : ℕ). ClearAs (kind_in u.shape.starts o) u.shape.texts (class_of n) (held_unboxed o u).table (known_state o u).content (state_at (after_stored found called) o).content) same
+      (subst (λ (z : Kind × List ℕ × ContainerState × ContainerState). ClearAs z.0 z.1 c (held_unboxed o u).table z.2.content z.3.content) (λ d. (kind_u d, texts_u d, sym (since.knows o) d, sym l d)) here)
 
   commits : MayCommit u called reply.Done
   commits =
@@ -327,7 +327,7 @@ module _ (laws : Laws) (k : Shape) (o : ℕ) (by : Way) (own : Table) (t : ℕ) 
         reply_is = λ found has. plain_replied called reply.Done (reply_in found called) joins.write (joins.replied found (has_since o v u since found has));
         declared = λ found has. joins.declared found (has_since o v u since found has);
         fits = λ found has. joins.over found (has_since o v u since found has) ∙ cap;
-        clear = subst (λ (n : ℕ). (found : StoredWorld) (q : ℕ) → MayHave u found → root_in (held_words n u) ≡ suc q → ClearAs (kind_in u.shape.starts n) u.shape.texts (class_of q) (held_words n u).table (known_state n u).content (state_at (after_stored found called) n).content) name clears;
+        clear = subst (λ (n : ℕ). (found : StoredWorld) (q : ℕ) → MayHave u found → root_in (held_unboxed n u) ≡ suc q → ClearAs (kind_in u.shape.starts n) u.shape.texts (class_of q) (held_unboxed n u).table (known_state n u).content (state_at (after_stored found called) n).content) name clears;
         takes = λ found class has owed. takes found class (has_since o v u since found has) (sym since.owes ∙ owed);
         empties = λ e. absurd (true≢false (sym e ∙ subst (λ (n : ℕ). has_emptied n u.log ≡ false) name since.emptied));
         locks = λ p e. since.locks p ∙ joins.locks p e;

@@ -11,12 +11,13 @@ use Rattle.ft_trace.specs.declared.Shape.{Shape}
 use Rattle.ft_trace.specs.declared.View.{View}
 use Rattle.ft_trace.specs.Acts.{has_lock}
 use Rattle.ft_trace.specs.Addresses.{class_of}
-use Rattle.ft_trace.specs.Holds.{held_words, known_state}
+use Rattle.ft_trace.specs.Holds.{held_unboxed, known_state}
 use Rattle.ft_trace.specs.Kinds.{IsKeyed, rows}
 use Rattle.ft_trace.specs.Pictures.{root_in}
 use Rattle.ft_trace.specs.ContainerStates.{ContainerState, changes}
 use Rattle.ft_bank.specs.declared.table.Table.{Table}
 use Rattle.ft_bank.specs.TableNames.{table_id, IsTableIn}
+use Rattle.ft_bank.specs.SameBoxes.{SameReferences}
 use Rattle.ft_bank.specs.Whole.{OnlyLoaded, Wrote}
 use Rattle.ft_bank.specs.WriteSteps.{MayHave}
 use Rattle.ft_bank.proofs.KnownAfterWrites.{loaded_then, work_knows}
@@ -64,13 +65,14 @@ joins_leaves o t called v joins same few = record {
 
 -- ---- the calls
 
-pub made_here : (k : Shape) (o : ℕ) (called : Call) (v w : View) (stamp : Stamp) (number : ℕ) → stamp ≡ record { number = number; wrote = true } → changes called ≡ o → Wrote called reply.Done number v w → root_in (held_words o w) ≡ root_in (held_words o v) → IsAdded k None false called reply.Done v w (added.Made stamp)
-made_here k o called v w stamp number is changed wrote root = (
+pub made_here : (k : Shape) (o : ℕ) (called : Call) (v w : View) (stamp : Stamp) (number : ℕ) → stamp ≡ record { number = number; wrote = true } → changes called ≡ o → Wrote called reply.Done number v w → SameReferences v w → root_in (held_unboxed o w) ≡ root_in (held_unboxed o v) → IsAdded k None false called reply.Done v w (added.Made stamp)
+made_here k o called v w stamp number is changed wrote references root = (
   refl,
   ap (λ (z : Stamp). z.wrote) is,
   record {
     wrote = subst (λ (z : Stamp). Wrote called reply.Done z.number v w) (sym is) wrote;
-    root = subst (λ (n : ℕ). root_in (held_words n w) ≡ root_in (held_words n v)) (sym changed) root;
+    root = subst (λ (n : ℕ). root_in (held_unboxed n w) ≡ root_in (held_unboxed n v)) (sym changed) root;
+    references = references;
   },
 )
 

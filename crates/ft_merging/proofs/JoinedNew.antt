@@ -7,28 +7,26 @@ use Rattle.ft_model.specs.TableUses.{passes_cap}
 use Rattle.ft_model.specs.Worlds.{kind_of, length_of, serial_of}
 use Rattle.ft_layout.specs.Containers.{StandsAs}
 use Rattle.ft_keys.specs.declared.walk.Way.{Way}
-use Rattle.ft_trace.specs.declared.Act.TheVariants.{PutRoot, StartWrite}
 use Rattle.ft_trace.specs.declared.Shape.{Shape}
 use Rattle.ft_trace.specs.declared.View.{View}
-use Rattle.ft_trace.specs.Acts.{has_committed, view_after}
+use Rattle.ft_trace.specs.Acts.{has_committed}
 use Rattle.ft_trace.specs.Addresses.{class_of, slots}
-use Rattle.ft_trace.specs.Holds.{held_words, in_hand, known_state}
+use Rattle.ft_trace.specs.Holds.{held_words, held_unboxed, in_hand, known_state}
 use Rattle.ft_trace.specs.Kinds.{rows, under}
 use Rattle.ft_trace.specs.Traces.{IsReachable}
-use Rattle.ft_trace.specs.Pictures.{ContainerWords, entry_field, Represents}
+use Rattle.ft_trace.specs.Pictures.{ContainerWords, entry_field, root_in, Represents}
 use Rattle.ft_trace.specs.ContainerStates.{ContainerState, kind_in}
 use Rattle.ft_trace.proofs.Cases.{hit}
 use Rattle.ft_bank.specs.declared.table.Table.{Table}
 use Rattle.ft_bank.specs.TableNames.{table_id}
-use Rattle.ft_bank.specs.Whole.{OnlyPut}
-use Rattle.ft_bank.specs.WriteSteps.{KeepsUnwritten}
-use Rattle.ft_bank.proofs.KnownAfterWrites.{work_knows}
+use Rattle.ft_bank.specs.Whole.{OnlyWritten}
+use Rattle.ft_bank.proofs.KnownAfterWrites.{work_knows, written_then}
 use Rattle.ft_search.specs.Rounds.{kind_by}
 use Rattle.ft_search.specs.OneEntryWrites.{WritesEntries}
 use Rattle.ft_search.proofs.Changing.{kind_is}
 use Rattle.ft_new_keys.specs.declared.counts.Counts.{Counts}
 use Rattle.ft_new_keys.specs.Fresh.{IsFilledWith}
-use Rattle.ft_new_keys.specs.KeyGrowth.{KnowsKeyed, MayGrowKeyed}
+use Rattle.ft_new_keys.specs.KeyGrowth.{BeginsIn, KnowsKeyed, MayGrowKeyed}
 use Rattle.ft_new_keys.specs.Placing.{AreCounts, counted}
 use Rattle.ft_new_keys.proofs.Keyed.{Heads, counts_known}
 use Rattle.ft_new_keys.proofs.Placed.{use_with}
@@ -42,10 +40,10 @@ use Rattle.ft_merging.proofs.JoinedPairs.{source_known}
 use Rattle.ft_merging.proofs.JoinedReads.{knows_put}
 use Rattle.ft_merging.proofs.JoinedStarts.{knows_rooted}
 
-module _ (heads : Heads) (laws : Laws) (k : Shape) (o : ℕ) (by : Way) (old : Option Table) (new : Table) (t : ℕ) (table : Table) (counts : Counts) (more : ℕ) (x y z : View) (f was : ℕ) (shape : x.shape ≡ k) (possible : ∥ IsReachable x ∥₁) (two : o ≢ t) (may : MayGrowKeyed k o old new x) (other : KnowsKeyed k t (Some table) x) (kind_eq : kind_in k.starts o ≡ kind_by by) (kind_t : kind_in k.starts t ≡ kind_by by)
-    (filled : IsFilledWith k.texts (class_of (table_id new)) (known_state o x).content (in_hand (table_id new) x)) (are : AreCounts (held_words o x).block counts) (more_is : more ≡ new_keys (known_state o x).content (known_state t x).content) (cap : passes_cap (joined (known_state o x).content (known_state t x).content) ≡ false) (serials : serial_of (known_state o x).content + 65536 < 2 ^ 63) (room : counts.count + more ≤ rows (kind_in k.starts o) (class_of (table_id new)))
-    (did : y ≡ view_after (PutRoot o (suc (table_id new)) was) (view_after (StartWrite o f) x)) (keeps : KeepsUnwritten (view_after (StartWrite o f) x) y) (words : held_words o y ≡ record { block = slice_set (held_words o x).block 0 (suc (table_id new)); table = in_hand (table_id new) x }) (shape_y : y.shape ≡ k)
-    (only : OnlyPut o y z) (put : held_words o z ≡ record { block = counted (held_words o y).block counts.count counts.count counts.next; table = (held_words o y).table }) (writes : WritesEntries k o new z) (shape_z : z.shape ≡ k) (possible_z : ∥ IsReachable z ∥₁) where
+module _ (heads : Heads) (laws : Laws) (k : Shape) (o : ℕ) (by : Way) (old : Option Table) (new : Table) (t : ℕ) (table : Table) (counts : Counts) (more : ℕ) (x y z : View) (shape : x.shape ≡ k) (possible : ∥ IsReachable x ∥₁) (two : o ≢ t) (may : MayGrowKeyed k o old new x) (other : KnowsKeyed k t (Some table) x) (kind_eq : kind_in k.starts o ≡ kind_by by) (kind_t : kind_in k.starts t ≡ kind_by by)
+    (filled : IsFilledWith k.texts (class_of (table_id new)) (known_state o x).content (in_hand (table_id new) x)) (are : AreCounts (held_unboxed o x).block counts) (more_is : more ≡ new_keys (known_state o x).content (known_state t x).content) (cap : passes_cap (joined (known_state o x).content (known_state t x).content) ≡ false) (serials : serial_of (known_state o x).content + 65536 < 2 ^ 63) (room : counts.count + more ≤ rows (kind_in k.starts o) (class_of (table_id new)))
+    (begun : BeginsIn o new x y) (words : held_unboxed o y ≡ record { block = slice_set (held_unboxed o x).block 0 (suc (table_id new)); table = in_hand (table_id new) x })
+    (only : OnlyWritten o y z) (put : held_unboxed o z ≡ record { block = counted (held_unboxed o y).block counts.count counts.count counts.next; table = (held_unboxed o y).table }) (writes : WritesEntries k o new z) (shape_z : z.shape ≡ k) (possible_z : ∥ IsReachable z ∥₁) where
   abbrev c : ℕ
   c = class_of (table_id new)
 
@@ -62,33 +60,33 @@ module _ (heads : Heads) (laws : Laws) (k : Shape) (o : ℕ) (by : Way) (old : O
   many = counts_known heads k o old x counts may.keyed are
 
   known_on : (p : ℕ) → known_state p x ≡ known_state p z
-  known_on p = sym (work_knows y z p only.work ∙ ap (known_state p) did)
+  known_on p = sym (work_knows y z p only.work ∙ (work_knows begun.rooted y p begun.only.work ∙ ap (known_state p) begun.is))
 
-  words_on : held_words o z ≡ record { block = counted (slice_set (held_words o x).block 0 (suc (table_id new))) counts.count counts.count counts.next; table = in_hand (table_id new) x }
+  words_on : held_unboxed o z ≡ record { block = counted (slice_set (held_unboxed o x).block 0 (suc (table_id new))) counts.count counts.count counts.next; table = in_hand (table_id new) x }
   words_on = put ∙ (λ i. record { block = counted (words i).block counts.count counts.count counts.next; table = (words i).table })
 
-  stands : Represents k.texts (held_words o z) (record { content = d; table = use_with c counts.count })
+  stands : Represents k.texts (held_unboxed o z) (record { content = d; table = use_with c counts.count })
   stands =
       let says = filled_says laws.pairs laws.elements heads k o old new x may shape possible filled in
       let n = many.0 in
       let r = many.1 in
-      let here : StandsAs k.texts (counted (slice_set (held_words o x).block 0 (suc (table_id new))) counts.count counts.count counts.next) (0 ∷ 0 ∷ in_hand (table_id new) x) (use_with c counts.count) d =
-      subst (λ (w : ℕ × ℕ). StandsAs k.texts (counted (slice_set (held_words o x).block 0 (suc (table_id new))) w.0 w.0 w.1) (0 ∷ 0 ∷ in_hand (table_id new) x) (use_with c w.0) d) (λ i. (sym n i, sym r i)) says in
+      let here : StandsAs k.texts (counted (slice_set (held_unboxed o x).block 0 (suc (table_id new))) counts.count counts.count counts.next) (0 ∷ 0 ∷ in_hand (table_id new) x) (use_with c counts.count) d =
+      subst (λ (w : ℕ × ℕ). StandsAs k.texts (counted (slice_set (held_unboxed o x).block 0 (suc (table_id new))) w.0 w.0 w.1) (0 ∷ 0 ∷ in_hand (table_id new) x) (use_with c w.0) d) (λ i. (sym n i, sym r i)) says in
       subst (λ (w : ContainerWords). Represents k.texts w (record { content = d; table = use_with c counts.count })) (sym words_on) here
 
-  evens : (p : ℕ) → p < rows (kind_in k.starts o) c → version_of (table_id new) (held_words o z) p % 2 ≡ 0
+  evens : (p : ℕ) → p < rows (kind_in k.starts o) c → version_of (table_id new) (held_unboxed o z) p % 2 ≡ 0
   evens p less =
       let zero = filled.versions p (subst (λ (w : Kind). p < rows w c) (sym kinds) less) in
-      let same : version_of (table_id new) (held_words o z) p ≡ entry_field (slots c) (in_hand (table_id new) x) p 0 = ap (λ (w : ContainerWords). version_of (table_id new) w p) words_on in
+      let same : version_of (table_id new) (held_unboxed o z) p ≡ entry_field (slots c) (in_hand (table_id new) x) p 0 = ap (λ (w : ContainerWords). version_of (table_id new) w p) words_on in
       omega (arith, zero, same)
 
-  alive : NoneGone (table_id new) (rows (kind_in k.starts o) c) (held_words o z)
+  alive : NoneGone (table_id new) (rows (kind_in k.starts o) c) (held_unboxed o z)
   alive p key less odd dead = let e = evens p less in omega (arith, e, odd)
 
   midway : IsMidway k o new (record { content = d; table = use_with c counts.count }) z
   midway = record {
     writes = writes;
-    early = only.work.committed o ∙ (ap (λ (w : View). has_committed o w.log) did ∙ hit o false (has_committed o x.log));
+    early = only.work.committed o ∙ (begun.only.work.committed o ∙ (ap (λ (w : View). has_committed o w.log) begun.is ∙ hit o false (has_committed o x.log)));
     stands = stands;
     same = λ p key less even live. ap (λ (w : ContainerState). under w.content key) (known_on o);
     opens = λ p less odd. let e = evens p less in absurd (omega (arith, e, odd));
@@ -97,7 +95,10 @@ module _ (heads : Heads) (laws : Laws) (k : Shape) (o : ℕ) (by : Way) (old : O
   }
 
   pub other_on : KnowsKeyed k t (Some table) z
-  other_on = knows_put k o t (Some table) y z shape_y two only (knows_rooted k o t (suc (table_id new)) was (Some table) x y f shape did keeps two other)
+  other_on =
+      let r = begun.rooted in
+      knows_put k o t (Some table) r z (ap (λ (w : View). w.shape) begun.is ∙ shape) two (written_then o r y z begun.only only)
+      (knows_rooted k o t (suc (table_id new)) (root_in (held_words o x)) (Some table) x r begun.found shape begun.is begun.keeps two other)
 
   pub new_begins : IsJoining k o by new t table (joined (known_state o z).content (known_state t z).content) (counts.count + more) 0 all z
   new_begins =

@@ -19,7 +19,7 @@ use Rattle.ft_keys.specs.declared.walk.Way.TheVariants as way
 use Rattle.ft_trace.specs.declared.Shape.{Shape}
 use Rattle.ft_trace.specs.declared.View.{View}
 use Rattle.ft_trace.specs.Addresses.{class_of}
-use Rattle.ft_trace.specs.Holds.{held_words, known_state}
+use Rattle.ft_trace.specs.Holds.{held_unboxed, known_state}
 use Rattle.ft_trace.specs.Traces.{IsReachable}
 use Rattle.ft_trace.specs.Pictures.{Represents}
 use Rattle.ft_trace.specs.ContainerStates.{kind_in}
@@ -84,16 +84,16 @@ pub dict_source : words.FirstEntriesArePairs → (k : Shape) (t : ℕ) (table : 
 dict_source pairs k t table v knows others is =
     let c = class_of (table_id table) in
     let table_in = knows.table_in table refl in
-    let class = class_known k.texts (held_words t v) (known_state t v) (table_id table) knows.stands knows.root in
-    let stands : Represents k.texts (held_words t v) (record { content = content.Dict others; table = (known_state t v).table }) = subst (λ (z : Content). Represents k.texts (held_words t v) (record { content = z; table = (known_state t v).table })) is knows.stands in
-    let says : IsDictWords k.texts (held_words t v).block (0 ∷ 0 ∷ (held_words t v).table) (Some c) (known_state t v).table.fill others = subst (λ (z : Option ℕ). IsDictWords k.texts (held_words t v).block (0 ∷ 0 ∷ (held_words t v).table) z (known_state t v).table.fill others) class stands in
+    let class = class_known k.texts (held_unboxed t v) (known_state t v) (table_id table) knows.stands knows.root in
+    let stands : Represents k.texts (held_unboxed t v) (record { content = content.Dict others; table = (known_state t v).table }) = subst (λ (z : Content). Represents k.texts (held_unboxed t v) (record { content = z; table = (known_state t v).table })) is knows.stands in
+    let says : IsDictWords k.texts (held_unboxed t v).block (0 ∷ 0 ∷ (held_unboxed t v).table) (Some c) (known_state t v).table.fill others = subst (λ (z : Option ℕ). IsDictWords k.texts (held_unboxed t v).block (0 ∷ 0 ∷ (held_unboxed t v).table) z (known_state t v).table.fill others) class stands in
     record {
       used = says.used;
       table_is = says.table;
       filled = says.filled;
       apart = apart_used says.used says.table.distinct;
       stores = dict_stores says.used others.pairs says.entries.live;
-      few = let f = says.filled in let g = says.table.fill in let r = words.room_is pairs k.texts (held_words t v).block c (known_state t v).table.fill (table_class k table table_in) others (held_words t v).table says in omega (arith, f, g, r);
+      few = let f = says.filled in let g = says.table.fill in let r = words.room_is pairs k.texts (held_unboxed t v).block c (known_state t v).table.fill (table_class k table table_in) others (held_unboxed t v).table says in omega (arith, f, g, r);
       comes = λ d kind_eq. comes d kind_eq says.used says.entries.live ∙ ap (joined d) (sym is);
     }
   where

@@ -21,8 +21,9 @@ use Rattle.ft_keys.specs.declared.walk.Way.TheVariants as way
 use Rattle.ft_keys.specs.Ways.{IsTableOf, room, walk_slots}
 use Rattle.ft_trace.specs.declared.Shape.{Shape}
 use Rattle.ft_trace.specs.declared.View.{View}
+use Rattle.ft_trace.specs.Acts.{has_lock}
 use Rattle.ft_trace.specs.Addresses.{class_of, container_count, slots}
-use Rattle.ft_trace.specs.Holds.{held_words, known_state}
+use Rattle.ft_trace.specs.Holds.{held_unboxed, known_state}
 use Rattle.ft_trace.specs.Kinds.{rows}
 use Rattle.ft_trace.specs.Pictures.{ContainerWords, entry_field, root_in, Represents}
 use Rattle.ft_trace.specs.ContainerStates.{ContainerState}
@@ -35,7 +36,7 @@ use Rattle.ft_trace.proofs.SetKnown as set
 use Rattle.ft_trace.proofs.Tellings.{word_is}
 use Rattle.ft_bank.specs.declared.table.Table.{Table}
 use Rattle.ft_bank.specs.TableNames.{table_id, IsTableIn}
-use Rattle.ft_bank.specs.Whole.{OnlyLoaded, OnlyPut}
+use Rattle.ft_bank.specs.Whole.{OnlyLoaded, OnlyWritten}
 use Rattle.ft_bank.proofs.KnownAfterWrites.{loaded_held, work_knows}
 use Rattle.ft_search.specs.Held.{IsHeldAt, KnowsTable}
 use Rattle.ft_search.specs.Rounds.{kind_by}
@@ -44,6 +45,7 @@ use Rattle.ft_search.proofs.Puts.{table_class}
 use Rattle.ft_new_keys.specs.KeyGrowth.{KnowsKeyed, holds}
 use Rattle.ft_new_keys.specs.Placing.{StoresAs}
 use Rattle.ft_new_keys.proofs.Grown.{knows_on}
+use Rattle.ft_merging.proofs.Ending.{read_same}
 use Rattle.ft_merging.specs.Joining.{joined}
 use Rattle.ft_merging.specs.Internal.JoiningSteps.{Apart, StoresIn, joined_used, pair_in}
 use Rattle.ft_merging.proofs.JoinedContents.{joined_elements}
@@ -53,16 +55,16 @@ use Rattle.ft_merging.proofs.JoinedContents.{joined_elements}
 pub table_after : (o t : ℕ) (v w : View) → OnlyLoaded v w → KnowsTable o t v → KnowsTable o t w
 table_after o t v w only knows = (only.work.pass.locks o ∙ knows.0, ap root_in (loaded_held v w o only) ∙ knows.1)
 
-pub word_after : (o : ℕ) (n place word : ℕ) (v w : View) → OnlyLoaded v w → (found : ℕ) → found ≡ entry_field n (held_words o w).table place word → found ≡ entry_field n (held_words o v).table place word
-word_after o n place word v w only found is = is ∙ ap (λ (x : ContainerWords). entry_field n x.table place word) (loaded_held v w o only)
+pub word_after : (k : Shape) (o : ℕ) (n place word : ℕ) (v w : View) → v.shape ≡ k → o < container_count k → has_lock o v.log ≡ true → OnlyLoaded v w → (found : ℕ) → found ≡ entry_field n (held_unboxed o w).table place word → found ≡ entry_field n (held_unboxed o v).table place word
+word_after k o n place word v w shape low mine only found is = is ∙ ap (λ (x : ContainerWords). entry_field n x.table place word) (read_same k o v w shape low mine only)
 
-pub knows_loaded : (k : Shape) (o : ℕ) (old : Option Table) (v w : View) → OnlyLoaded v w → KnowsKeyed k o old v → KnowsKeyed k o old w
-knows_loaded k o old v w only = knows_on k o old v w (loaded_held v w o only) (work_knows v w o only.work) (only.work.pass.locks o) (only.work.pass.writes o)
+pub knows_loaded : (k : Shape) (o : ℕ) (old : Option Table) (v w : View) → v.shape ≡ k → OnlyLoaded v w → KnowsKeyed k o old v → KnowsKeyed k o old w
+knows_loaded k o old v w shape only knows = knows_on k o old v w (read_same k o v w shape knows.container knows.locked only) (work_knows v w o only.work) (only.work.pass.locks o) (only.work.pass.writes o) knows
 
 -- and while another one is written
-pub knows_put : (k : Shape) (o t : ℕ) (old : Option Table) (v w : View) → v.shape ≡ k → o ≢ t → OnlyPut o v w → KnowsKeyed k t old v → KnowsKeyed k t old w
+pub knows_put : (k : Shape) (o t : ℕ) (old : Option Table) (v w : View) → v.shape ≡ k → o ≢ t → OnlyWritten o v w → KnowsKeyed k t old v → KnowsKeyed k t old w
 knows_put k o t old v w shape two only knows =
-    let same : held_words t w ≡ held_words t v = only.others t (subst (λ (z : Shape). t < container_count z) (sym shape) knows.container) (λ e. two (sym e)) knows.locked knows.even in
+    let same : held_unboxed t w ≡ held_unboxed t v = (only.others t (subst (λ (z : Shape). t < container_count z) (sym shape) knows.container) (λ e. two (sym e)) knows.locked knows.even).1 in
     knows_on k t old v w same (work_knows v w t only.work) (only.work.pass.locks t) (only.work.pass.writes t) knows
 
 -- ---- used entries
@@ -114,7 +116,7 @@ apart_used used distinct i j d less low = λ one two. distinct-used used distinc
 -- what a pass finds in the table of a container whose lock it has: the used entries, and what joining them comes to
 pub record Source (k : Shape) (by : Way) (t : ℕ) (table : Table) (v : View) : Type 0 where
   pub used : List UsedEntry
-  pub table_is : IsTableOf by k.texts (class_mask (class_of (table_id table))) used (0 ∷ 0 ∷ (held_words t v).table)
+  pub table_is : IsTableOf by k.texts (class_mask (class_of (table_id table))) used (0 ∷ 0 ∷ (held_unboxed t v).table)
   pub filled : length used ≡ (known_state t v).table.fill
   pub apart : AllPairs Apart used
   pub stores : All (StoresIn (kind_by by)) used
@@ -143,9 +145,9 @@ pub set_source : set.FirstEntriesAreElements → (k : Shape) (t : ℕ) (table : 
 set_source elements k t table v knows others is =
     let c = class_of (table_id table) in
     let table_in = knows.table_in table refl in
-    let class = class_known k.texts (held_words t v) (known_state t v) (table_id table) knows.stands knows.root in
-    let stands : Represents k.texts (held_words t v) (record { content = content.Set others; table = (known_state t v).table }) = subst (λ (z : Content). Represents k.texts (held_words t v) (record { content = z; table = (known_state t v).table })) is knows.stands in
-    let says : IsSetWords k.texts (held_words t v).block (0 ∷ 0 ∷ (held_words t v).table) (Some c) (known_state t v).table.fill others = subst (λ (z : Option ℕ). IsSetWords k.texts (held_words t v).block (0 ∷ 0 ∷ (held_words t v).table) z (known_state t v).table.fill others) class stands in
+    let class = class_known k.texts (held_unboxed t v) (known_state t v) (table_id table) knows.stands knows.root in
+    let stands : Represents k.texts (held_unboxed t v) (record { content = content.Set others; table = (known_state t v).table }) = subst (λ (z : Content). Represents k.texts (held_unboxed t v) (record { content = z; table = (known_state t v).table })) is knows.stands in
+    let says : IsSetWords k.texts (held_unboxed t v).block (0 ∷ 0 ∷ (held_unboxed t v).table) (Some c) (known_state t v).table.fill others = subst (λ (z : Option ℕ). IsSetWords k.texts (held_unboxed t v).block (0 ∷ 0 ∷ (held_unboxed t v).table) z (known_state t v).table.fill others) class stands in
     let apart = apart_used says.used says.table.distinct in
     record {
       used = says.used;
@@ -153,7 +155,7 @@ set_source elements k t table v knows others is =
       filled = says.filled;
       apart = apart;
       stores = set_stores says.used others.elements says.entries.live;
-      few = let f = says.filled in let g = says.table.fill in let r = set.room_is elements k.texts (held_words t v).block c (known_state t v).table.fill (table_class k table table_in) others (held_words t v).table says in omega (arith, f, g, r);
+      few = let f = says.filled in let g = says.table.fill in let r = set.room_is elements k.texts (held_unboxed t v).block c (known_state t v).table.fill (table_class k table table_in) others (held_unboxed t v).table says in omega (arith, f, g, r);
       comes = λ d kind_eq. comes d kind_eq says.used apart says.entries.live ∙ ap (joined d) (sym is);
     }
   where
@@ -185,7 +187,7 @@ holds_none (content.Deque deque) key none = absurd none
 
 -- where a key was found in the table
 pub holds_at : (k : Shape) (v : View) (o : ℕ) (table : Table) (key : Key) (a b : ℕ) → KnowsEntries k o v → HasTable k o table v → FitsKey key → IsHeldAt (known_state o v).content key (Some (a, b)) → holds (known_state o v).content key ≡ true
-holds_at k v o table key a b may has fits there = holds_some k (held_words o v) (known_state o v) (class_of (table_id table)) may.stands (class_known k.texts (held_words o v) (known_state o v) (table_id table) may.stands has.root) key a b fits there
+holds_at k v o table key a b may has fits there = holds_some k (held_unboxed o v) (known_state o v) (class_of (table_id table)) may.stands (class_known k.texts (held_unboxed o v) (known_state o v) (table_id table) may.stands has.root) key a b fits there
 
 pub none_found : (found : Option Pair) → ((pair : Pair) → found ≡ Some pair → ⊥) → found ≡ None
 none_found None never = refl

@@ -17,7 +17,7 @@ use Rattle.ft_keys.specs.declared.walk.Way.TheVariants as way
 use Rattle.ft_trace.specs.declared.Shape.{Shape}
 use Rattle.ft_trace.specs.declared.View.{View}
 use Rattle.ft_trace.specs.Acts.{has_lock}
-use Rattle.ft_trace.specs.Holds.{held_words, known_state}
+use Rattle.ft_trace.specs.Holds.{held_unboxed, known_state}
 use Rattle.ft_trace.specs.Kinds.{IsKeyed}
 use Rattle.ft_trace.specs.Traces.{IsReachable}
 use Rattle.ft_trace.specs.Pictures.{root_in, Represents}
@@ -77,41 +77,41 @@ keyed_way kind.Set keyed = (way.Set, refl)
 keyed_way kind.List keyed = absurd keyed
 keyed_way (kind.Deque bound) keyed = absurd keyed
 
-module _ (k : Shape) (o : ℕ) (v : View) (shape : v.shape ≡ k) (possible : ∥ IsReachable v ∥₁) (keyed : IsKeyed (kind_in k.starts o)) (mine : has_lock o v.log ≡ true) (stands : Represents k.texts (held_words o v) (known_state o v)) where
+module _ (k : Shape) (o : ℕ) (v : View) (shape : v.shape ≡ k) (possible : ∥ IsReachable v ∥₁) (keyed : IsKeyed (kind_in k.starts o)) (mine : has_lock o v.log ≡ true) (stands : Represents k.texts (held_unboxed o v) (known_state o v)) where
   abbrev words : List ℕ
-  words = 0 ∷ 0 ∷ (held_words o v).table
+  words = 0 ∷ 0 ∷ (held_unboxed o v).table
 
   known_way : (by : Way) × IsOfWay by (known_state o v).content
   known_way = let w = keyed_way (kind_in k.starts o) keyed in (w.0, of_way w.0 v o possible mine (ap (λ (z : Shape). kind_in z.starts o) shape ∙ w.1))
 
-  stands_as : (d : Content) → (known_state o v).content ≡ d → StandsAs k.texts (held_words o v).block words (known_state o v).table d
-  stands_as d is = subst (λ (z : Content). StandsAs k.texts (held_words o v).block words (known_state o v).table z) is stands
+  stands_as : (d : Content) → (known_state o v).content ≡ d → StandsAs k.texts (held_unboxed o v).block words (known_state o v).table d
+  stands_as d is = subst (λ (z : Content). StandsAs k.texts (held_unboxed o v).block words (known_state o v).table z) is stands
 
   -- it has no more keys than the largest table holds
   pub known_cap : Laws → passes_cap (known_state o v).content ≡ false
   known_cap laws = by known_way.0 known_way.1
     where
-      pairs : (class : Option ℕ) (d : DictContent) → IsDictWords k.texts (held_words o v).block words class (known_state o v).table.fill d → length d.pairs ≤ most_pairs
+      pairs : (class : Option ℕ) (d : DictContent) → IsDictWords k.texts (held_unboxed o v).block words class (known_state o v).table.fill d → length d.pairs ≤ most_pairs
       pairs None d says = let none = no_map used_pair d.pairs (sym says.entries.live ∙ ap (filter is_live) says.table) in omega (arith, none)
-      pairs (Some class) d says = dict.dict_short laws.pairs k.texts (held_words o v).block class (known_state o v).table.fill says.head.root.1.0 d (held_words o v).table says
+      pairs (Some class) d says = dict.dict_short laws.pairs k.texts (held_unboxed o v).block class (known_state o v).table.fill says.head.root.1.0 d (held_unboxed o v).table says
 
-      elements : (class : Option ℕ) (d : SetContent) → IsSetWords k.texts (held_words o v).block words class (known_state o v).table.fill d → length d.elements ≤ most_elements
+      elements : (class : Option ℕ) (d : SetContent) → IsSetWords k.texts (held_unboxed o v).block words class (known_state o v).table.fill d → length d.elements ≤ most_elements
       elements None d says = let none = no_map used_element d.elements (sym says.entries.live ∙ ap (filter is_live) says.table) in omega (arith, none)
-      elements (Some class) d says = set.set_short laws.elements k.texts (held_words o v).block class (known_state o v).table.fill says.head.root.1.0 d (held_words o v).table says
+      elements (Some class) d says = set.set_short laws.elements k.texts (held_unboxed o v).block class (known_state o v).table.fill says.head.root.1.0 d (held_unboxed o v).table says
 
       by : (w : Way) → IsOfWay w (known_state o v).content → passes_cap (known_state o v).content ≡ false
       by way.Dict is = ap passes_cap is.1 ∙ le-ltb most_pairs (length is.0.pairs) (pairs (known_state o v).table.class is.0 (stands_as (content.Dict is.0) is.1))
       by way.Set is = ap passes_cap is.1 ∙ le-ltb most_elements (length is.0.elements) (elements (known_state o v).table.class is.0 (stands_as (content.Set is.0) is.1))
 
   -- it has none, where it has no table
-  pub known_bare : root_in (held_words o v) ≡ 0 → length_of (known_state o v).content ≡ 0
+  pub known_bare : root_in (held_unboxed o v) ≡ 0 → length_of (known_state o v).content ≡ 0
   known_bare bare = by known_way.0 known_way.1
     where
-      pairs : (class : Option ℕ) (d : DictContent) → IsDictWords k.texts (held_words o v).block words class (known_state o v).table.fill d → length d.pairs ≡ 0
+      pairs : (class : Option ℕ) (d : DictContent) → IsDictWords k.texts (held_unboxed o v).block words class (known_state o v).table.fill d → length d.pairs ≡ 0
       pairs None d says = no_map used_pair d.pairs (sym says.entries.live ∙ ap (filter is_live) says.table)
       pairs (Some class) d says = absurd (let r = says.head.root.1.2 in omega (arith, r, bare))
 
-      elements : (class : Option ℕ) (d : SetContent) → IsSetWords k.texts (held_words o v).block words class (known_state o v).table.fill d → length d.elements ≡ 0
+      elements : (class : Option ℕ) (d : SetContent) → IsSetWords k.texts (held_unboxed o v).block words class (known_state o v).table.fill d → length d.elements ≡ 0
       elements None d says = no_map used_element d.elements (sym says.entries.live ∙ ap (filter is_live) says.table)
       elements (Some class) d says = absurd (let r = says.head.root.1.2 in omega (arith, r, bare))
 
@@ -127,5 +127,5 @@ module _ (k : Shape) (o : ℕ) (v : View) (shape : v.shape ≡ k) (possible : �
       twice d is same = subst (λ (z : Content). joined z z ≡ z) (sym is) same
 
       by : (w : Way) → IsOfWay w (known_state o v).content → joined (known_state o v).content (known_state o v).content ≡ (known_state o v).content
-      by way.Dict is = twice (content.Dict is.0) is.1 (ap content.Dict (update_itself is.0 (stands_for_dict k.texts (held_words o v).block words (known_state o v).table.class (known_state o v).table.fill is.0 (stands_as (content.Dict is.0) is.1))))
+      by way.Dict is = twice (content.Dict is.0) is.1 (ap content.Dict (update_itself is.0 (stands_for_dict k.texts (held_unboxed o v).block words (known_state o v).table.class (known_state o v).table.fill is.0 (stands_as (content.Dict is.0) is.1))))
       by way.Set is = twice (content.Set is.0) is.1 (ap content.Set (or_itself is.0))

@@ -10,7 +10,7 @@ use Rattle.ft_trace.specs.declared.Shape.{Shape}
 use Rattle.ft_trace.specs.declared.View.{View}
 use Rattle.ft_trace.specs.Acts.{has_committed, has_lock, is_writing, view_after}
 use Rattle.ft_trace.specs.Addresses.{class_of, container_count}
-use Rattle.ft_trace.specs.Holds.{held_words, known_state}
+use Rattle.ft_trace.specs.Holds.{held_unboxed, known_state}
 use Rattle.ft_trace.specs.Kinds.{IsKeyed, rows, under}
 use Rattle.ft_trace.specs.Traces.{IsReachable}
 use Rattle.ft_trace.specs.Pictures.{ContainerWords, Represents}
@@ -41,7 +41,7 @@ use Rattle.ft_merging.proofs.JoinedRoom.{keys_room}
 -- another container is known as it was, once the version of the one that is written is odd
 pub knows_begun : (k : Shape) (o t : ℕ) (old : Option Table) (v u : View) (f : ℕ) → u ≡ view_after (StartWrite o f) v → o ≢ t → KnowsKeyed k t old v → KnowsKeyed k t old u
 knows_begun k o t old v u f begun two knows =
-    knows_on k t old v u (ap (held_words t) begun) (ap (known_state t) begun) (ap (λ (z : View). has_lock t z.log) begun)
+    knows_on k t old v u (ap (held_unboxed t) begun) (ap (known_state t) begun) (ap (λ (z : View). has_lock t z.log) begun)
     (ap (λ (z : View). is_writing t z.log) begun ∙ ap (λ (b : Bool). cond b true (is_writing t v.log)) (ne_eqb o t two)) knows
 
 -- and once its root names another table
@@ -49,7 +49,7 @@ pub knows_rooted : (k : Shape) (o t root was : ℕ) (old : Option Table) (v u : 
 knows_rooted k o t root was old v u f shape is keeps two knows =
     let quiet : is_writing t (view_after (StartWrite o f) v).log ≡ is_writing t v.log = ap (λ (b : Bool). cond b true (is_writing t v.log)) (ne_eqb o t two) in
     let same = keeps t (subst (λ (z : Shape). t < container_count z) (sym shape) knows.container) knows.locked (quiet ∙ knows.even) in
-    knows_on k t old v u same.0 same.1 (ap (λ (z : View). has_lock t z.log) is) (ap (λ (z : View). is_writing t z.log) is ∙ quiet) knows
+    knows_on k t old v u same.2 same.1 (ap (λ (z : View). has_lock t z.log) is) (ap (λ (z : View). is_writing t z.log) is ∙ quiet) knows
 
 -- a pass that may add a key may write
 pub may_write : (k : Shape) (o : ℕ) (old : Option Table) (v : View) → MayAddKey k o old v → MayWriteEntries k o v
@@ -60,13 +60,14 @@ may_write k o old v may = record {
   even = may.even;
   stands = may.keyed.stands;
   owes = may.owes;
+  boxes = may.boxes;
   left = may.left;
 }
 
 -- ---- in the table that it has
 
 module _ (heads : Heads) (laws : Laws) (k : Shape) (o : ℕ) (by : Way) (own : Table) (t : ℕ) (table : Table) (counts : Counts) (more : ℕ) (v u : View) (f : ℕ) (shape : v.shape ≡ k) (possible : ∥ IsReachable v ∥₁) (two : o ≢ t) (may : MayAddKey k o (Some own) v) (other : KnowsKeyed k t (Some table) v) (kind_eq : kind_in k.starts o ≡ kind_by by) (kind_t : kind_in k.starts t ≡ kind_by by)
-    (are : AreCounts (held_words o v).block counts) (more_is : more ≡ new_keys (known_state o v).content (known_state t v).content) (cap : passes_cap (joined (known_state o v).content (known_state t v).content) ≡ false) (serials : serial_of (known_state o v).content + 65536 < 2 ^ 63) (none : join_takes (known_state o v) (known_state t v).content ≡ None) (begun : u ≡ view_after (StartWrite o f) v) (shape_u : u.shape ≡ k) (possible_u : ∥ IsReachable u ∥₁) where
+    (are : AreCounts (held_unboxed o v).block counts) (more_is : more ≡ new_keys (known_state o v).content (known_state t v).content) (cap : passes_cap (joined (known_state o v).content (known_state t v).content) ≡ false) (serials : serial_of (known_state o v).content + 65536 < 2 ^ 63) (none : join_takes (known_state o v) (known_state t v).content ≡ None) (begun : u ≡ view_after (StartWrite o f) v) (shape_u : u.shape ≡ k) (possible_u : ∥ IsReachable u ∥₁) where
   abbrev c : ℕ
   c = class_of (table_id own)
 
@@ -91,26 +92,26 @@ module _ (heads : Heads) (laws : Laws) (k : Shape) (o : ℕ) (by : Way) (own : T
   use_is : (known_state o v).table ≡ use_with c counts.fill
   use_is = here_table ∙ (λ i. record { class = Some (sym class_same i); fill = counts.fill; keys = [] })
 
-  evens : (p : ℕ) → p < rows (kind_in k.starts o) c → version_of (table_id own) (held_words o v) p % 2 ≡ 0
-  evens p less = entry_shut (kind_of d) keyed c (rows (kind_of d) c) (held_words o v).table (shut_here heads k o own v shape possible may.keyed by kind_eq) p (subst (λ (z : Kind). p < rows z c) (sym kinds) less)
+  evens : (p : ℕ) → p < rows (kind_in k.starts o) c → version_of (table_id own) (held_unboxed o v) p % 2 ≡ 0
+  evens p less = entry_shut (kind_of d) keyed c (rows (kind_of d) c) (held_unboxed o v).table (shut_here heads k o own v shape possible may.keyed by kind_eq) p (subst (λ (z : Kind). p < rows z c) (sym kinds) less)
 
-  held_back : held_words o v ≡ held_words o u
-  held_back = sym (ap (held_words o) begun)
+  held_back : held_unboxed o v ≡ held_unboxed o u
+  held_back = sym (ap (held_unboxed o) begun)
 
   known_back : (p : ℕ) → known_state p v ≡ known_state p u
   known_back p = sym (ap (known_state p) begun)
 
-  evens_on : (p : ℕ) → p < rows (kind_in k.starts o) c → version_of (table_id own) (held_words o u) p % 2 ≡ 0
+  evens_on : (p : ℕ) → p < rows (kind_in k.starts o) c → version_of (table_id own) (held_unboxed o u) p % 2 ≡ 0
   evens_on = subst (λ (x : ContainerWords). (p : ℕ) → p < rows (kind_in k.starts o) c → version_of (table_id own) x p % 2 ≡ 0) held_back evens
 
-  alive : NoneGone (table_id own) (rows (kind_in k.starts o) c) (held_words o u)
+  alive : NoneGone (table_id own) (rows (kind_in k.starts o) c) (held_unboxed o u)
   alive p key less odd dead = let e = evens_on p less in omega (arith, e, odd)
 
   midway : IsMidway k o own (record { content = d; table = use_with c counts.fill }) u
   midway = record {
     writes = writes_begun k o own v u f begun (may_write k o (Some own) v may) (record { table_in = table_in; root = may.keyed.root });
     early = ap (λ (z : View). has_committed o z.log) begun ∙ hit o false (has_committed o v.log);
-    stands = subst (λ (x : ContainerWords). Represents k.texts x (record { content = d; table = use_with c counts.fill })) held_back (subst (λ (z : TableUse). Represents k.texts (held_words o v) (record { content = d; table = z })) use_is may.keyed.stands);
+    stands = subst (λ (x : ContainerWords). Represents k.texts x (record { content = d; table = use_with c counts.fill })) held_back (subst (λ (z : TableUse). Represents k.texts (held_unboxed o v) (record { content = d; table = z })) use_is may.keyed.stands);
     same = λ p key less even live. ap (λ (z : ContainerState). under z.content key) (known_back o);
     opens = λ p less odd. let e = evens_on p less in absurd (omega (arith, e, odd));
     gone = λ p key less odd dead. absurd (alive p key less odd dead);

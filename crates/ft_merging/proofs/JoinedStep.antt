@@ -20,7 +20,7 @@ use Rattle.ft_trace.specs.declared.Shape.{Shape}
 use Rattle.ft_trace.specs.declared.View.{View}
 use Rattle.ft_trace.specs.Addresses.{class_of, slots}
 use Rattle.ft_trace.specs.Carefuls.{IsDead, HasLiveKey, said_of, IsOf, OpensChanged}
-use Rattle.ft_trace.specs.Holds.{held_words, known_state}
+use Rattle.ft_trace.specs.Holds.{held_unboxed, known_state}
 use Rattle.ft_trace.specs.Kinds.{IsKeyed, rows, under}
 use Rattle.ft_trace.specs.Pictures.{ContainerWords, entry_offset, entry_field, Represents}
 use Rattle.ft_trace.specs.ContainerStates.{ContainerState, kind_in}
@@ -28,7 +28,7 @@ use Rattle.ft_trace.proofs.ByKind.{keyed_fit}
 use Rattle.ft_trace.proofs.Known.{table_is_long}
 use Rattle.ft_bank.specs.declared.table.Table.{Table}
 use Rattle.ft_bank.specs.TableNames.{table_id}
-use Rattle.ft_bank.specs.Whole.{OnlyPut}
+use Rattle.ft_bank.specs.Whole.{OnlyWritten}
 use Rattle.ft_bank.proofs.TableAddresses.{class_is}
 use Rattle.ft_bank.proofs.KnownAfterWrites.{work_knows}
 use Rattle.ft_search.specs.Held.{IsHeldAt}
@@ -48,12 +48,12 @@ use Rattle.ft_merging.specs.Internal.EntriesAtOnce.{IsMidway, version_of}
 use Rattle.ft_merging.proofs.Ending.{parity}
 
 module _ (laws : PlaceLaws) (k : Shape) (o : ℕ) (by : Way) (own : Table) (mid : Content) (counts : Counts) (v : View) (midway : IsMidway k o own (record { content = mid; table = use_with (class_of (table_id own)) counts.fill }) v) (same_kind : kind_of mid ≡ kind_by by) (kind_eq : kind_in k.starts o ≡ kind_by by) (count_is : counts.count ≡ length_of mid)
-    (alive : NoneGone (table_id own) (rows (kind_in k.starts o) (class_of (table_id own))) (held_words o v)) (slot : ℕ) (key : Key) (stored : Stored) (fits : FitsKey key) (low : hash_of k.texts key < 2 ^ 64) (stores : StoresAs (kind_of mid) stored) (ok : FitsStored stored) (absent : IsHeldAt mid key None) (free : IsFreeFor k.texts by own.class key (held_words o v).table slot) (room : counts.fill < rows (kind_by by) (class_of (table_id own))) where
+    (alive : NoneGone (table_id own) (rows (kind_in k.starts o) (class_of (table_id own))) (held_unboxed o v)) (slot : ℕ) (key : Key) (stored : Stored) (fits : FitsKey key) (low : hash_of k.texts key < 2 ^ 64) (stores : StoresAs (kind_of mid) stored) (ok : FitsStored stored) (absent : IsHeldAt mid key None) (free : IsFreeFor k.texts by own.class key (held_unboxed o v).table slot) (room : counts.fill < rows (kind_by by) (class_of (table_id own))) where
   abbrev t : ℕ
   t = table_id own
 
   abbrev x : ContainerWords
-  x = held_words o v
+  x = held_unboxed o v
 
   abbrev c : ℕ
   c = class_of t
@@ -248,17 +248,17 @@ module _ (laws : PlaceLaws) (k : Shape) (o : ℕ) (by : Way) (own : Table) (mid 
       subst (λ (i : Key). NoneOf i left) (same_key key a fits fits_a kind payload) none)
       (λ ne. let was = others_same q 0 ne (omega arith) in before q a less (omega (arith, was, odd)) fits_a (live_before q a ne live))
 
-  module _ (z : View) (only : OnlyPut o v z) (words : held_words o z ≡ y) (writes : WritesEntries k o own z) where
-    back : y ≡ held_words o z
+  module _ (z : View) (only : OnlyWritten o v z) (words : held_unboxed o z ≡ y) (writes : WritesEntries k o own z) where
+    back : y ≡ held_unboxed o z
     back = sym words
 
     knows : known_state o v ≡ known_state o z
     knows = sym (work_knows v z o only.work)
 
-    pub alive_put : NoneGone t (rows (kind_in k.starts o) c) (held_words o z)
+    pub alive_put : NoneGone t (rows (kind_in k.starts o) c) (held_unboxed o z)
     alive_put = subst (λ (w : ContainerWords). NoneGone t (rows (kind_in k.starts o) c) w) back alive_then
 
-    pub ahead_put : (left : List UsedEntry) → NoneAhead t (rows (kind_in k.starts o) c) x left → NoneOf key left → NoneAhead t (rows (kind_in k.starts o) c) (held_words o z) left
+    pub ahead_put : (left : List UsedEntry) → NoneAhead t (rows (kind_in k.starts o) c) x left → NoneOf key left → NoneAhead t (rows (kind_in k.starts o) c) (held_unboxed o z) left
     ahead_put left before none = subst (λ (w : ContainerWords). NoneAhead t (rows (kind_in k.starts o) c) w left) back (ahead_then left before none)
 
     pub midway_put : under (known_state o v).content key ≡ [] → IsMidway k o own (record { content = news; table = use_with c (p + 1) }) z

@@ -1,5 +1,5 @@
 -- A key that is there when a dict or a set is written: what another value in its entry leaves.
-use Rattle.std.proofs.Common.{◌≡◌, ◌≢◌, ◌⊎◌, ℕ, ◌+◌, ◌*◌, ◌%◌, ◌<◌, ◌≤◌, true, false, List, [], ◌∷◌, length, Some, refl, sym, ap, ◌∙◌, subst, inl, inr, arith, ⊎_elim, true≢false}
+use Rattle.std.proofs.Common.{◌≡◌, ◌≢◌, ◌⊎◌, ℕ, ◌+◌, ◌*◌, ◌%◌, ◌<◌, ◌≤◌, true, false, List, [], ◌∷◌, length, None, Some, refl, sym, ap, ◌∙◌, subst, inl, inr, arith, ⊎_elim, true≢false}
 use mathlib.Core.Logic.{dite}
 use native.Mathlib.Decide.{ℕ_discrete}
 use Rattle.ft_model.specs.declared.content.Content.{Content}
@@ -22,7 +22,7 @@ use Rattle.ft_trace.specs.declared.View.{View}
 use Rattle.ft_trace.specs.Addresses.{class_of, places, slots}
 use Rattle.ft_trace.specs.Carefuls.{IsDead, HasLiveKey, Pairs, said_of, IsOf, OpensChanged}
 use Rattle.ft_trace.specs.EntryWrites.{value_puts}
-use Rattle.ft_trace.specs.Holds.{held_words, known_state}
+use Rattle.ft_trace.specs.Holds.{held_unboxed, known_state}
 use Rattle.ft_trace.specs.Kinds.{rows, under}
 use Rattle.ft_trace.specs.Pictures.{ContainerWords, entry_field, Represents}
 use Rattle.ft_trace.specs.ContainerStates.{ContainerState, kind_in}
@@ -32,7 +32,7 @@ use Rattle.ft_trace.proofs.EntryPuts.{key3, other3, ver3, value_changed}
 use Rattle.ft_trace.proofs.Known.{table_is_long}
 use Rattle.ft_bank.specs.declared.table.Table.{Table}
 use Rattle.ft_bank.specs.TableNames.{table_id}
-use Rattle.ft_bank.specs.Whole.{OnlyPut}
+use Rattle.ft_bank.specs.Whole.{OnlyWritten}
 use Rattle.ft_bank.proofs.KnownAfterWrites.{work_knows}
 use Rattle.ft_search.specs.OneEntryWrites.{WritesEntries, are_of_value}
 use Rattle.ft_search.proofs.Puts.{table_class}
@@ -49,30 +49,30 @@ use Rattle.std.specs.Prelude.{if◌then◌else◌}
 -- The entry at this place was written, whose key stays, and no other.
 pub record IsPutThere (k : Shape) (o : ℕ) (own : Table) (mid : Content) (fill at : ℕ) (v z : View) : Type 0 where
   pub midway : IsMidway k o own (record { content = mid; table = use_with (class_of (table_id own)) fill }) z
-  pub alive : NoneGone (table_id own) (rows (kind_in k.starts o) (class_of (table_id own))) (held_words o z)
-  pub keys : (q w : ℕ) → (w ≡ 2) ⊎ (w ≡ 3) → entry_field (slots (class_of (table_id own))) (held_words o z).table q w ≡ entry_field (slots (class_of (table_id own))) (held_words o v).table q w
-  pub others : (q : ℕ) → q ≢ at → version_of (table_id own) (held_words o z) q ≡ version_of (table_id own) (held_words o v) q
+  pub alive : NoneGone (table_id own) (rows (kind_in k.starts o) (class_of (table_id own))) (held_unboxed o z)
+  pub keys : (q w : ℕ) → (w ≡ 2) ⊎ (w ≡ 3) → entry_field (slots (class_of (table_id own))) (held_unboxed o z).table q w ≡ entry_field (slots (class_of (table_id own))) (held_unboxed o v).table q w
+  pub others : (q : ℕ) → q ≢ at → version_of (table_id own) (held_unboxed o z) q ≡ version_of (table_id own) (held_unboxed o v) q
 
 -- the key is none of those that are left
-pub ahead_there : (k : Shape) (o : ℕ) (own : Table) (mid : Content) (fill at : ℕ) (v z : View) → IsPutThere k o own mid fill at v z → (key : Key) → FitsKey key → HasLiveKey (slots (class_of (table_id own))) (held_words o v).table at key → (left : List UsedEntry)
-    → NoneAhead (table_id own) (rows (kind_in k.starts o) (class_of (table_id own))) (held_words o v) left → NoneOf key left → NoneAhead (table_id own) (rows (kind_in k.starts o) (class_of (table_id own))) (held_words o z) left
+pub ahead_there : (k : Shape) (o : ℕ) (own : Table) (mid : Content) (fill at : ℕ) (v z : View) → IsPutThere k o own mid fill at v z → (key : Key) → FitsKey key → HasLiveKey (slots (class_of (table_id own))) (held_unboxed o v).table at key → (left : List UsedEntry)
+    → NoneAhead (table_id own) (rows (kind_in k.starts o) (class_of (table_id own))) (held_unboxed o v) left → NoneOf key left → NoneAhead (table_id own) (rows (kind_in k.starts o) (class_of (table_id own))) (held_unboxed o z) left
 ahead_there k o own mid fill at v z put key fits live left before none q a less odd fits_a live_now =
-    let was : HasLiveKey (slots (class_of (table_id own))) (held_words o v).table q a = (sym (put.keys q 2 (inl refl)) ∙ live_now.0, sym (put.keys q 3 (inr refl)) ∙ live_now.1) in
+    let was : HasLiveKey (slots (class_of (table_id own))) (held_unboxed o v).table q a = (sym (put.keys q 2 (inl refl)) ∙ live_now.0, sym (put.keys q 3 (inr refl)) ∙ live_now.1) in
     dite (ℕ_discrete q at)
     (λ (e : q ≡ at).
-    let here : HasLiveKey (slots (class_of (table_id own))) (held_words o v).table at a = subst (λ (i : ℕ). HasLiveKey (slots (class_of (table_id own))) (held_words o v).table i a) e was in
+    let here : HasLiveKey (slots (class_of (table_id own))) (held_unboxed o v).table at a = subst (λ (i : ℕ). HasLiveKey (slots (class_of (table_id own))) (held_unboxed o v).table i a) e was in
     subst (λ (i : Key). NoneOf i left) (same_key key a fits fits_a (sym live.0 ∙ here.0) (sym live.1 ∙ here.1)) none)
     (λ ne. let same = put.others q ne in before q a less (omega (arith, same, odd)) fits_a was)
 
 -- ---- a dict
 
-module _ (laws : ValueLaws) (k : Shape) (o : ℕ) (own : Table) (pairs : DictContent) (fill : ℕ) (v : View) (midway : IsMidway k o own (record { content = content.Dict pairs; table = use_with (class_of (table_id own)) fill }) v) (kind_eq : kind_in k.starts o ≡ kind.Dict) (at : ℕ) (key : Key) (value : Value) (fits : FitsKey key) (ok : FitsStored (Plain value)) (low : at < rows (kind_in k.starts o) (class_of (table_id own))) (live : HasLiveKey (slots (class_of (table_id own))) (held_words o v).table at key)
-    (even : version_of (table_id own) (held_words o v) at % 2 ≡ 0) where
+module _ (laws : ValueLaws) (k : Shape) (o : ℕ) (own : Table) (pairs : DictContent) (fill : ℕ) (v : View) (midway : IsMidway k o own (record { content = content.Dict pairs; table = use_with (class_of (table_id own)) fill }) v) (kind_eq : kind_in k.starts o ≡ kind.Dict) (at : ℕ) (key : Key) (value : Value) (fits : FitsKey key) (ok : FitsStored (Plain value)) (low : at < rows (kind_in k.starts o) (class_of (table_id own))) (live : HasLiveKey (slots (class_of (table_id own))) (held_unboxed o v).table at key)
+    (even : version_of (table_id own) (held_unboxed o v) at % 2 ≡ 0) where
   abbrev t : ℕ
   t = table_id own
 
   abbrev x : ContainerWords
-  x = held_words o v
+  x = held_unboxed o v
 
   abbrev c : ℕ
   c = class_of t
@@ -111,10 +111,10 @@ module _ (laws : ValueLaws) (k : Shape) (o : ℕ) (own : Table) (pairs : DictCon
   says = midway.stands
 
   abbrev y : ContainerWords
-  y = with_puts x (value_puts n x.table at value)
+  y = with_puts x (value_puts n x.table at None value)
 
-  pub dict_may : (before : Content) → MayPuts (kind_in k.starts o) t before false x (value_puts n x.table at value)
-  dict_may before = subst (λ (z : Kind). MayPuts z t before false x (value_puts n x.table at value)) (sym kind_eq) (value_early laws k.texts x (use_with c fill) t is_class pairs says refl midway.writes.root long at key value even (row at low) live fits ok before)
+  pub dict_may : (before : Content) → MayPuts (kind_in k.starts o) t before false x (value_puts n x.table at None value)
+  dict_may before = subst (λ (z : Kind). MayPuts z t before false x (value_puts n x.table at None value)) (sym kind_eq) (value_early laws k.texts x (use_with c fill) t is_class pairs says refl midway.writes.root long at key value even (row at low) live fits ok before)
 
   used_here : at < fill
   used_here = value_used laws k.texts x (use_with c fill) t is_class pairs says refl midway.writes.root long at key value even (row at low) live fits ok
@@ -209,11 +209,11 @@ module _ (laws : ValueLaws) (k : Shape) (o : ℕ) (own : Table) (pairs : DictCon
       no)
       (λ ne. let ver = others_now q 0 ne (omega arith) in alive q a less (omega (arith, ver, odd)) old)
 
-  pub dict_put : (entry_field n x.table at 4 ≡ kw → entry_field n x.table at 5 ≡ pw → ⊥) → NoneGone t m x → (z : View) → OnlyPut o v z → held_words o z ≡ y → WritesEntries k o own z → IsPutThere k o own (content.Dict news) fill at v z
+  pub dict_put : (entry_field n x.table at 4 ≡ kw → entry_field n x.table at 5 ≡ pw → ⊥) → NoneGone t m x → (z : View) → OnlyWritten o v z → held_unboxed o z ≡ y → WritesEntries k o own z → IsPutThere k o own (content.Dict news) fill at v z
   dict_put other alive z only words writes =
-      let back : y ≡ held_words o z = sym words in
+      let back : y ≡ held_unboxed o z = sym words in
       let knows : known_state o v ≡ known_state o z = sym (work_knows v z o only.work) in
-      let gone : NoneGone t m (held_words o z) = subst (λ (w : ContainerWords). NoneGone t m w) back (alive_now alive) in
+      let gone : NoneGone t m (held_unboxed o z) = subst (λ (w : ContainerWords). NoneGone t m w) back (alive_now alive) in
       record {
         midway = record {
           writes = writes;
@@ -231,13 +231,13 @@ module _ (laws : ValueLaws) (k : Shape) (o : ℕ) (own : Table) (pairs : DictCon
 
 -- ---- either
 
-module _ (laws : ValueLaws) (k : Shape) (o : ℕ) (own : Table) (fill : ℕ) (v : View) (at : ℕ) (key : Key) (fits : FitsKey key) (low : at < rows (kind_in k.starts o) (class_of (table_id own))) (live : HasLiveKey (slots (class_of (table_id own))) (held_words o v).table at key) (even : version_of (table_id own) (held_words o v) at % 2 ≡ 0) where
+module _ (laws : ValueLaws) (k : Shape) (o : ℕ) (own : Table) (fill : ℕ) (v : View) (at : ℕ) (key : Key) (fits : FitsKey key) (low : at < rows (kind_in k.starts o) (class_of (table_id own))) (live : HasLiveKey (slots (class_of (table_id own))) (held_unboxed o v).table at key) (even : version_of (table_id own) (held_unboxed o v) at % 2 ≡ 0) where
   pub there_may : (mid : Content) (stored : Stored) → IsMidway k o own (record { content = mid; table = use_with (class_of (table_id own)) fill }) v → kind_of mid ≡ kind_in k.starts o → StoresAs (kind_of mid) stored → FitsStored stored → (before : Content)
-      → MayPuts (kind_in k.starts o) (table_id own) before false (held_words o v) (stored_puts (slots (class_of (table_id own))) (held_words o v).table at stored)
+      → MayPuts (kind_in k.starts o) (table_id own) before false (held_unboxed o v) (stored_puts (slots (class_of (table_id own))) (held_unboxed o v).table at stored)
   there_may (content.Dict pairs) (Plain value) midway kinds stores ok before =
       let n = slots (class_of (table_id own)) in
-      let x = held_words o v in
-      elim (are_of_value (entry_field n x.table at 4) (entry_field n x.table at 5) value) as (λ b. MayPuts (kind_in k.starts o) (table_id own) before false x (if b then [] else value_puts n x.table at value)) [
+      let x = held_unboxed o v in
+      elim (are_of_value (entry_field n x.table at 4) (entry_field n x.table at 5) value) as (λ b. MayPuts (kind_in k.starts o) (table_id own) before false x (if b then [] else value_puts n x.table at None value)) [
         | true ↦ tt
         | false ↦ dict_may laws k o own pairs fill v midway (sym kinds) at key value fits ok low live even before
       ]
@@ -250,9 +250,9 @@ module _ (laws : ValueLaws) (k : Shape) (o : ℕ) (own : Table) (fill : ℕ) (v 
   there_may (content.Deque deque) stored midway kinds stores ok before = absurd stores
 
   -- nothing is put
-  there_kept : (mid : Content) → IsMidway k o own (record { content = mid; table = use_with (class_of (table_id own)) fill }) v → NoneGone (table_id own) (rows (kind_in k.starts o) (class_of (table_id own))) (held_words o v) → (z : View) → OnlyPut o v z → held_words o z ≡ held_words o v → WritesEntries k o own z → IsPutThere k o own mid fill at v z
+  there_kept : (mid : Content) → IsMidway k o own (record { content = mid; table = use_with (class_of (table_id own)) fill }) v → NoneGone (table_id own) (rows (kind_in k.starts o) (class_of (table_id own))) (held_unboxed o v) → (z : View) → OnlyWritten o v z → held_unboxed o z ≡ held_unboxed o v → WritesEntries k o own z → IsPutThere k o own mid fill at v z
   there_kept mid midway alive z only words writes =
-      let back : held_words o v ≡ held_words o z = sym words in
+      let back : held_unboxed o v ≡ held_unboxed o z = sym words in
       let knows : known_state o v ≡ known_state o z = sym (work_knows v z o only.work) in
       let n = slots (class_of (table_id own)) in
       let m = rows (kind_in k.starts o) (class_of (table_id own)) in
@@ -282,16 +282,16 @@ module _ (laws : ValueLaws) (k : Shape) (o : ℕ) (own : Table) (fill : ℕ) (v 
   there_still (content.List values) stored midway kinds stores ok there = absurd stores
   there_still (content.Deque deque) stored midway kinds stores ok there = absurd stores
 
-  pub there_put : (mid : Content) (stored : Stored) → IsMidway k o own (record { content = mid; table = use_with (class_of (table_id own)) fill }) v → kind_of mid ≡ kind_in k.starts o → StoresAs (kind_of mid) stored → FitsStored stored → holds mid key ≡ true → NoneGone (table_id own) (rows (kind_in k.starts o) (class_of (table_id own))) (held_words o v)
-      → (z : View) → OnlyPut o v z → held_words o z ≡ with_puts (held_words o v) (stored_puts (slots (class_of (table_id own))) (held_words o v).table at stored) → WritesEntries k o own z → IsPutThere k o own (with_key mid key stored) fill at v z
+  pub there_put : (mid : Content) (stored : Stored) → IsMidway k o own (record { content = mid; table = use_with (class_of (table_id own)) fill }) v → kind_of mid ≡ kind_in k.starts o → StoresAs (kind_of mid) stored → FitsStored stored → holds mid key ≡ true → NoneGone (table_id own) (rows (kind_in k.starts o) (class_of (table_id own))) (held_unboxed o v)
+      → (z : View) → OnlyWritten o v z → held_unboxed o z ≡ with_puts (held_unboxed o v) (stored_puts (slots (class_of (table_id own))) (held_unboxed o v).table at stored) → WritesEntries k o own z → IsPutThere k o own (with_key mid key stored) fill at v z
   there_put (content.Dict pairs) (Plain value) midway kinds stores ok there alive z only words writes =
       let n = slots (class_of (table_id own)) in
-      let x = held_words o v in
+      let x = held_unboxed o v in
       let k4 = entry_field n x.table at 4 in
       let p5 = entry_field n x.table at 5 in
       let kw = stored_kind (Plain value) in
       let pw = stored_payload (Plain value) in
-      elim (are_of_value k4 p5 value) as (λ b. are_of_value k4 p5 value ≡ b → held_words o z ≡ with_puts x (if b then [] else value_puts n x.table at value) → IsPutThere k o own (content.Dict (dict_set pairs key value)) fill at v z) [
+      elim (are_of_value k4 p5 value) as (λ b. are_of_value k4 p5 value ≡ b → held_unboxed o z ≡ with_puts x (if b then [] else value_puts n x.table at None value) → IsPutThere k o own (content.Dict (dict_set pairs key value)) fill at v z) [
         | true ↦ λ yes same.
             let w = both_equal k4 kw p5 pw yes in
             subst (λ (d : DictContent). IsPutThere k o own (content.Dict d) fill at v z) (sym (dict_again laws k o own pairs fill v midway (sym kinds) at key value fits ok low live even w.0 w.1))

@@ -4,7 +4,7 @@ use Rattle.ft_model.specs.declared.script.Kind.{Kind}
 use Rattle.ft_model.specs.Worlds.{serial_of}
 use Rattle.ft_trace.specs.declared.Shape.{Shape}
 use Rattle.ft_trace.specs.declared.View.{View}
-use Rattle.ft_trace.specs.Holds.{held_words, known_state}
+use Rattle.ft_trace.specs.Holds.{held_unboxed, known_state}
 use Rattle.ft_trace.specs.Pictures.{ContainerWords}
 use Rattle.ft_trace.specs.ContainerStates.{ContainerState}
 use Rattle.ft_new_keys.specs.KeyGrowth.{KnowsKeyed}
@@ -14,7 +14,7 @@ use Rattle.ft_merging.specs.Joining.{new_keys}
 use Rattle.ft_merging.specs.Merging.{MayMerge}
 
 -- it is so later too, where the pass holds and knows the same
-pub merge_later : (k : Shape) (kind : Kind) (merge : Merge) (v u : View) → held_words merge.o u ≡ held_words merge.o v → known_state merge.o u ≡ known_state merge.o v → known_state merge.t u ≡ known_state merge.t v → KnowsKeyed k merge.t (Some merge.table) u → MayMerge k kind merge v → MayMerge k kind merge u
+pub merge_later : (k : Shape) (kind : Kind) (merge : Merge) (v u : View) → held_unboxed merge.o u ≡ held_unboxed merge.o v → known_state merge.o u ≡ known_state merge.o v → known_state merge.t u ≡ known_state merge.t v → KnowsKeyed k merge.t (Some merge.table) u → MayMerge k kind merge v → MayMerge k kind merge u
 merge_later k kind merge v u words mine others knows may = record {
   two = may.two;
   other = knows;

@@ -27,7 +27,7 @@ use Rattle.ft_trace.specs.declared.View.{View}
 use Rattle.ft_trace.specs.Acts.{view_after}
 use Rattle.ft_trace.specs.Addresses.{class_of, slots}
 use Rattle.ft_trace.specs.Carefuls.{HasLiveKey}
-use Rattle.ft_trace.specs.Holds.{held_words, known_state}
+use Rattle.ft_trace.specs.Holds.{held_unboxed, known_state}
 use Rattle.ft_trace.specs.Kinds.{is_key, rows}
 use Rattle.ft_trace.specs.Traces.{IsReachable}
 use Rattle.ft_trace.specs.Pictures.{entry_field}
@@ -37,7 +37,7 @@ use Rattle.ft_trace.proofs.SetKnown as set
 use Rattle.ft_trace.proofs.Tellings.{key_is, live_tells, one_tells}
 use Rattle.ft_bank.specs.declared.table.Table.{Table}
 use Rattle.ft_bank.specs.TableNames.{table_id}
-use Rattle.ft_bank.specs.Whole.{OnlyPut}
+use Rattle.ft_bank.specs.Whole.{OnlyWritten}
 use Rattle.ft_bank.proofs.KnownAfterWrites.{work_knows}
 use Rattle.ft_search.specs.OneEntryWrites.{HasTable, MayWriteEntries}
 use Rattle.ft_search.proofs.Puts.{table_class}
@@ -94,8 +94,8 @@ has_words (e ∷ es) key there = by (λ is. has_words es key is) (same_key e.key
 
 -- ---- once all are joined
 
-module _ (elements : set.FirstEntriesAreElements) (k : Shape) (s t : ℕ) (own table : Table) (v u w : View) (f : ℕ) (shape : v.shape ≡ k) (possible : ∥ IsReachable v ∥₁) (may : MayWriteEntries k s v) (is : kind_in k.starts s ≡ kind.Set) (has : HasTable k s own v) (begun : u ≡ view_after (StartWrite s f) v) (only : OnlyPut s u w) (fill end others_fill : ℕ) (counts : Counts) (fill_is : fill ≡ (known_state s v).table.fill)
-    (j : IsJoining k s way.Set own t table (joined (known_state s v).content (known_state t v).content) end others_fill counts w) (all : others_fill ≡ (known_state t w).table.fill) (keeps : KeepsBelow (table_id own) fill (held_words s u) (held_words s w)) where
+module _ (elements : set.FirstEntriesAreElements) (k : Shape) (s t : ℕ) (own table : Table) (v u w : View) (f : ℕ) (shape : v.shape ≡ k) (possible : ∥ IsReachable v ∥₁) (may : MayWriteEntries k s v) (is : kind_in k.starts s ≡ kind.Set) (has : HasTable k s own v) (begun : u ≡ view_after (StartWrite s f) v) (only : OnlyWritten s u w) (fill end others_fill : ℕ) (counts : Counts) (fill_is : fill ≡ (known_state s v).table.fill)
+    (j : IsJoining k s way.Set own t table (joined (known_state s v).content (known_state t v).content) end others_fill counts w) (all : others_fill ≡ (known_state t w).table.fill) (keeps : KeepsBelow (table_id own) fill (held_unboxed s u) (held_unboxed s w)) where
   abbrev c : ℕ
   c = class_of (table_id own)
 
@@ -128,35 +128,35 @@ module _ (elements : set.FirstEntriesAreElements) (k : Shape) (s t : ℕ) (own t
       subst (λ (z : ContainerState). IsMidway k s own z w) (λ i. record { content = comes i; table = use_with c (g i) }) j.midway
 
   -- the words of entries that were used before
-  kept_word : (p word : ℕ) → p < fill → word < 8 → entry_field n (held_words s w).table p word ≡ entry_field n (held_words s v).table p word
-  kept_word p word low few = keeps p word low few ∙ ap (λ (z : View). entry_field n (held_words s z).table p word) begun
+  kept_word : (p word : ℕ) → p < fill → word < 8 → entry_field n (held_unboxed s w).table p word ≡ entry_field n (held_unboxed s v).table p word
+  kept_word p word low few = keeps p word low few ∙ ap (λ (z : View). entry_field n (held_unboxed s z).table p word) begun
 
   room_now : set_room (class_mask c) ≡ set_entries c
-  room_now = set.room_is elements k.texts (held_words s w).block c end is_class both (held_words s w).table midway.stands
+  room_now = set.room_is elements k.texts (held_unboxed s w).block c end is_class both (held_unboxed s w).table midway.stands
 
   -- no two entries that are there have one key
-  one_live : (p q : ℕ) (key : Key) → p < q → q < set_entries c → HasLiveKey n (held_words s w).table p key → HasLiveKey n (held_words s w).table q key → ⊥
+  one_live : (p q : ℕ) (key : Key) → p < q → q < set_entries c → HasLiveKey n (held_unboxed s w).table p key → HasLiveKey n (held_unboxed s w).table q key → ⊥
   one_live p q key less low a b =
       let walk : ℕ → List ℕ = λ hash. set_slots hash (class_mask c) (class_mask c + 14) in
       let r = room_now in
-      one_tells walk (set_room (class_mask c)) k.texts c is_class midway.stands.used (held_words s w).table midway.stands.table p q key less
-      (live_tells walk (set_room (class_mask c)) k.texts c is_class midway.stands.used (held_words s w).table midway.stands.table p key (omega (arith, less, low, r)) a)
-      (live_tells walk (set_room (class_mask c)) k.texts c is_class midway.stands.used (held_words s w).table midway.stands.table q key (omega (arith, low, r)) b)
+      one_tells walk (set_room (class_mask c)) k.texts c is_class midway.stands.used (held_unboxed s w).table midway.stands.table p q key less
+      (live_tells walk (set_room (class_mask c)) k.texts c is_class midway.stands.used (held_unboxed s w).table midway.stands.table p key (omega (arith, less, low, r)) a)
+      (live_tells walk (set_room (class_mask c)) k.texts c is_class midway.stands.used (held_unboxed s w).table midway.stands.table q key (omega (arith, low, r)) b)
 
   -- the entries that were put have keys that weren't there
-  new_spared : (p : ℕ) (key : Key) → p < set_entries c → fill ≤ p → HasLiveKey n (held_words s w).table p key → spared false others first key ≡ true
+  new_spared : (p : ℕ) (key : Key) → p < set_entries c → fill ≤ p → HasLiveKey n (held_unboxed s w).table p key → spared false others first key ≡ true
   new_spared p key low up live = by (has_element first.elements key) refl
     where
       by : (b : Bool) → has_element first.elements key ≡ b → spared false others first key ≡ true
       by false missing = ap (λ (b : Bool). not b || stays false others key) missing
       by true there =
           let says = first_says k s own false others v u f shape possible may is has begun in
-          let old = set.set_live elements k.texts (held_words s v).block c (known_state s v).table.fill is_class first (held_words s v).table says key (found_words (λ (e : Element). is_key e.key key) first.elements (has_words first.elements key there)) in
+          let old = set.set_live elements k.texts (held_unboxed s v).block c (known_state s v).table.fill is_class first (held_unboxed s v).table says key (found_words (λ (e : Element). is_key e.key key) first.elements (has_words first.elements key there)) in
           let was : old.0 < fill = elim (cases_lt old.0 fill) [
             | inl less ↦ less
             | inr past ↦ absurd (unused k s own false others v u f shape possible may is has begun elements old.0 key old.1 (omega (arith, past, fill_is)) old.2)
           ] in
-          let now : HasLiveKey n (held_words s w).table old.0 key = (kept_word old.0 2 was (omega arith) ∙ old.2.0, kept_word old.0 3 was (omega arith) ∙ old.2.1) in
+          let now : HasLiveKey n (held_unboxed s w).table old.0 key = (kept_word old.0 2 was (omega arith) ∙ old.2.0, kept_word old.0 3 was (omega arith) ∙ old.2.1) in
           absurd (one_live old.0 p key (omega (arith, was, up)) low now live)
 
   -- before the first one goes
@@ -165,7 +165,7 @@ module _ (elements : set.FirstEntriesAreElements) (k : Shape) (s t : ℕ) (own t
     mid = both;
     midway = midway;
     first_is = ap (λ (z : ContainerState). z.content) (work_knows u w s only.work ∙ ap (known_state s) begun) ∙ is_first;
-    fits = set_fits_words k.texts (held_words s v).block (0 ∷ 0 ∷ (held_words s v).table) c (known_state s v).table.fill first (first_says k s own false others v u f shape possible may is has begun);
+    fits = set_fits_words k.texts (held_unboxed s v).block (0 ∷ 0 ∷ (held_unboxed s v).table) c (known_state s v).table.fill first (first_says k s own false others v u f shape possible may is has begun);
     comes = xor_comes others first;
     even = λ p less up low. let e = kept_word p 0 low (omega arith) in let g = evens k s own false others v u f shape possible may is has begun p less in omega (arith, e, g);
     done = λ p key less none ok live. absurd (omega (arith, none));

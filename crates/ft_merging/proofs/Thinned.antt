@@ -20,8 +20,8 @@ use Rattle.ft_model.specs.TableUses.{TableUse}
 use Rattle.ft_model.proofs.KeyLemmas.{same_key-refl, same_key-true}
 use Rattle.ft_hash.specs.Probes.{set_slots}
 use Rattle.ft_hash.proofs.Walks.{set_slots-within}
-use Rattle.ft_layout.specs.Words.{FitsKey, gone_kind}
-use Rattle.ft_layout.specs.Tables.{UsedEntry, hash_of, set_room, IsSetTable}
+use Rattle.ft_layout.specs.Words.{FitsKey, IsEntry, gone_kind}
+use Rattle.ft_layout.specs.Tables.{UsedEntry, hash_of, set_room, slot_of, IsSetTable}
 use Rattle.ft_layout.specs.Tables as layout
 use Rattle.ft_layout.specs.WordChanges.{with_deleted}
 use Rattle.ft_layout.specs.Containers.{class_mask, used_element, IsBlock, IsSetWords}
@@ -33,7 +33,7 @@ use Rattle.ft_trace.specs.declared.Shape.{Shape}
 use Rattle.ft_trace.specs.declared.View.{View}
 use Rattle.ft_trace.specs.Addresses.{class_of, slots, size}
 use Rattle.ft_trace.specs.Carefuls.{HasLiveKey, IsDead, said_of, OpensChanged}
-use Rattle.ft_trace.specs.Holds.{held_words, known_state}
+use Rattle.ft_trace.specs.Holds.{held_unboxed, known_state}
 use Rattle.ft_trace.specs.Kinds.{element_words, is_key, rows, under}
 use Rattle.ft_trace.specs.Pictures.{ContainerWords, root_in, entry_offset, entry_field, Represents}
 use Rattle.ft_trace.specs.ContainerStates.{ContainerState, kind_in}
@@ -46,17 +46,19 @@ use Rattle.ft_trace.proofs.LookReplies.{element_there}
 use Rattle.ft_trace.proofs.SetKnown as set
 use Rattle.ft_trace.proofs.SetDiscards as discarded
 use Rattle.ft_trace.proofs.Tellings.{key_is, key_words, live_tells, right_is_live, word_is}
+use Rattle.ft_trace.proofs.ValuePlaces.{set_entry_far}
 use Rattle.ft_bank.specs.declared.table.Table.{Table}
 use Rattle.ft_bank.specs.TableNames.{table_id}
-use Rattle.ft_bank.specs.Whole.{OnlyLoaded, OnlyPut}
-use Rattle.ft_bank.proofs.KnownAfterWrites.{loaded_held, loaded_put, work_knows}
-use Rattle.ft_search.specs.OneEntryWrites.{deletion}
+use Rattle.ft_bank.specs.Whole.{OnlyLoaded, OnlyWritten}
+use Rattle.ft_bank.proofs.KnownAfterWrites.{loaded_put, work_knows}
+use Rattle.ft_search.specs.OneEntryWrites.{WritesEntries, deletion}
 use Rattle.ft_search.proofs.Changing.{with_count}
 use Rattle.ft_search.proofs.Laws.{SetLaws}
 use Rattle.ft_search.proofs.Puts.{table_class, writes_on}
 use Rattle.ft_merging.specs.Thinning.{stays}
 use Rattle.ft_merging.specs.Internal.ThinningSteps.{IsThinned, spared}
 use Rattle.ft_merging.specs.Internal.EntriesAtOnce.{IsMidway, NoneDead, version_of}
+use Rattle.ft_merging.proofs.Ending.{read_same}
 
 -- ---- elements
 
@@ -165,6 +167,15 @@ module _ (laws : SetLaws) (texts : List ℕ) (x : ContainerWords) (tab : TableUs
       sym (word_is walk (set_room (class_mask c)) texts c is_class says.used x.table says.table p 1)
       ∙ (says.table.hashes p any inside ∙ ap (hash_of texts) (ap (λ (z : UsedEntry). z.key) (get_or_from_slice_get says.used p any any mine.1) ∙ mine.2))
 
+  -- it stores nothing
+  pub stores_none : entry_field n x.table p 4 ≢ 4
+  stores_none four =
+      let any : UsedEntry = used_element mine.0 in
+      let word : ℕ → ℕ = layout.entry_word (class_mask c) (0 ∷ 0 ∷ x.table) p in
+      let is : IsEntry word (slot_of texts any) = subst (λ (z : UsedEntry). IsEntry word (slot_of texts z)) (get_or_from_slice_get says.used p any any mine.1) (says.table.entries p any (slice_get_within says.used p any mine.1)) in
+      let z : 0 ≡ 4 = sym is.value.kind_is ∙ (word_is walk (set_room (class_mask c)) texts c is_class says.used x.table says.table p 4 ∙ four) in
+      omega (arith, z)
+
   module _ (class_eq : tab.class ≡ Some c) (names : root_in x ≡ suc t) (long : n + 8 * set_entries c ≤ length x.table) (even : entry_field n x.table p 0 % 2 ≡ 0) where
     abbrev m : ℕ
     m = set_entries c
@@ -236,8 +247,8 @@ module _ (laws : SetLaws) (texts : List ℕ) (x : ContainerWords) (tab : TableUs
     pub may_delete : (before : Content) → MayPuts kind.Set t before false x (deletion t p key x)
     may_delete before =
         let q1 : MayPut kind.Set t before false x (to_block 1 (slice_index x.block 1 - 1)) = (omega arith, omega arith) in
-        let q2 : MayPut kind.Set t before false (record { block = block; table = x.table }) (to_table (entry_offset n p 0) (ver + 1)) = (now_root ∙ names, inside 0 (omega arith), dead_open n m x.table p key low long even live (under before), record { before = λ q less at one. refl; later = λ q less at two. absurd (omega (arith, two, even)) }) in
-        let q3 : MayPut kind.Set t before false (record { block = block; table = opened }) (to_table (entry_offset n p 2) (gone_kind key)) = (now_root ∙ names, inside 2 (omega arith), dead_kind n m x.table p key low long even live (under before), record { before = λ q less at one. refl; later = λ q less at two. absurd (omega (arith, at)) }) in
+        let q2 : MayPut kind.Set t before false (record { block = block; table = x.table }) (to_table (entry_offset n p 0) (ver + 1)) = (now_root ∙ names, inside 0 (omega arith), dead_open n m x.table p key low long even live (under before), record { before = λ q less at one. refl; later = λ q less at two. absurd (omega (arith, two, even)) }, set_entry_far c p 0 (omega arith) (λ z. absurd (omega (arith, z))) (λ z. absurd (omega (arith, z)))) in
+        let q3 : MayPut kind.Set t before false (record { block = block; table = opened }) (to_table (entry_offset n p 2) (gone_kind key)) = (now_root ∙ names, inside 2 (omega arith), dead_kind n m x.table p key low long even live (under before), record { before = λ q less at one. refl; later = λ q less at two. absurd (omega (arith, at)) }, set_entry_far c p 2 (omega arith) (λ z. absurd (omega (arith, z))) (λ z. absurd (omega (arith, z)))) in
         (q1, (q2, (q3, tt)))
 
     -- the words of the other entries
@@ -289,14 +300,14 @@ module _ (laws : SetLaws) (texts : List ℕ) (x : ContainerWords) (tab : TableUs
 
 -- ---- what the pass knows
 
-pub midway_loaded : (k : Shape) (o : ℕ) (table : Table) (mid : ContainerState) (v w : View) → OnlyLoaded v w → IsMidway k o table mid v → IsMidway k o table mid w
-midway_loaded k o table mid v w only b =
-    let back : held_words o v ≡ held_words o w = sym (loaded_held v w o only) in
+pub midway_loaded : (k : Shape) (o : ℕ) (table : Table) (mid : ContainerState) (v w : View) → v.shape ≡ k → OnlyLoaded v w → IsMidway k o table mid v → IsMidway k o table mid w
+midway_loaded k o table mid v w shape only b =
+    let back : held_unboxed o v ≡ held_unboxed o w = sym (read_same k o v w shape b.writes.container b.writes.locked only) in
     let knows : known_state o v ≡ known_state o w = sym (work_knows v w o only.work) in
     let t = table_id table in
     let m = rows (kind_in k.starts o) (class_of t) in
     record {
-      writes = writes_on k o table v w (loaded_put v w o only) (ap root_in (sym back)) b.writes;
+      writes = writes_on k o table v w shape (loaded_put v w o only) only.boxes.references (ap root_in (sym back)) b.writes;
       early = only.work.committed o ∙ b.early;
       stands = subst (λ (y : ContainerWords). Represents k.texts y mid) back b.stands;
       same = subst (λ (y : ContainerWords × ContainerState). (p : ℕ) (key : Key) → p < m → version_of t y.0 p % 2 ≡ 0 → HasLiveKey (slots (class_of t)) y.0.table p key → under mid.content key ≡ under y.1.content key) (λ d. (back d, knows d)) b.same;
@@ -305,15 +316,15 @@ midway_loaded k o table mid v w only b =
       opened = subst (λ (y : ContainerWords). (p : ℕ) → p < m → version_of t y p % 2 ≡ 1 → p < mid.table.fill) back b.opened;
     }
 
-module _ (k : Shape) (s : ℕ) (table : Table) (kept : Bool) (others first : SetContent) (to : ContainerState) (last place : ℕ) (v w : View) (only : OnlyLoaded v w) (th : IsThinned k s table kept others first to last place v) where
+module _ (k : Shape) (s : ℕ) (table : Table) (kept : Bool) (others first : SetContent) (to : ContainerState) (last place : ℕ) (v w : View) (shape : v.shape ≡ k) (only : OnlyLoaded v w) (th : IsThinned k s table kept others first to last place v) where
   abbrev lt : ℕ
   lt = table_id table
 
   abbrev lm : ℕ
   lm = rows (kind_in k.starts s) (class_of lt)
 
-  back' : held_words s v ≡ held_words s w
-  back' = sym (loaded_held v w s only)
+  back' : held_unboxed s v ≡ held_unboxed s w
+  back' = sym (read_same k s v w shape th.midway.writes.container th.midway.writes.locked only)
 
   knows' : known_state s v ≡ known_state s w
   knows' = sym (work_knows v w s only.work)
@@ -321,7 +332,7 @@ module _ (k : Shape) (s : ℕ) (table : Table) (kept : Bool) (others first : Set
   pub thinned_loaded : IsThinned k s table kept others first to last place w
   thinned_loaded = record {
     mid = th.mid;
-    midway = midway_loaded k s table (record { content = content.Set th.mid; table = to.table }) v w only th.midway;
+    midway = midway_loaded k s table (record { content = content.Set th.mid; table = to.table }) v w shape only th.midway;
     first_is = ap (λ (y : ContainerState). y.content) (sym knows') ∙ th.first_is;
     fits = th.fits;
     comes = th.comes;
@@ -341,7 +352,7 @@ module _ (k : Shape) (s : ℕ) (table : Table) (kept : Bool) (others first : Set
   vm = set_entries (class_of vt)
 
   abbrev words_now : ContainerWords
-  words_now = held_words s v
+  words_now = held_unboxed s v
 
   abbrev tab : TableUse
   tab = to.table
@@ -385,14 +396,18 @@ module _ (k : Shape) (s : ℕ) (table : Table) (kept : Bool) (others first : Set
     pub some_there : 0 < slice_index words_now.block 1
     some_there = some laws k.texts words_now tab vt class_is th.mid says_now place key low live fits class_some th.midway.writes.root (set.set_is_long v s vt th.midway.writes.root) even_here
 
-    module _ (z : View) (only : OnlyPut s v z) (puts : held_words s z ≡ with_puts words_now (deletion vt place key words_now)) (out : spared kept others first key ≡ false) where
+    -- its value names no box
+    pub plain_there : entry_field vn words_now.table place 4 ≢ 4
+    plain_there = stores_none laws k.texts words_now tab vt class_is th.mid says_now place key low live fits
+
+    module _ (z : View) (only : OnlyWritten s v z) (writes : WritesEntries k s table z) (puts : held_unboxed s z ≡ with_puts words_now (deletion vt place key words_now)) (out : spared kept others first key ≡ false) where
       abbrev long : vn + 8 * vm ≤ length words_now.table
       long = set.set_is_long v s vt th.midway.writes.root
 
       abbrev words_then : ContainerWords
       words_then = with_puts words_now (deletion vt place key words_now)
 
-      back : words_then ≡ held_words s z
+      back : words_then ≡ held_unboxed s z
       back = sym puts
 
       knows : known_state s v ≡ known_state s z
@@ -475,7 +490,7 @@ module _ (k : Shape) (s : ℕ) (table : Table) (kept : Bool) (others first : Set
 
       midway_then : IsMidway k s table (record { content = mid_then; table = tab }) z
       midway_then = record {
-        writes = writes_on k s table v z only (ap root_in puts ∙ now_root laws k.texts words_now tab vt class_is th.mid says_now place key low live fits class_some th.midway.writes.root long even_here) th.midway.writes;
+        writes = writes;
         early = only.work.committed s ∙ th.midway.early;
         stands = subst (λ (y : ContainerWords). Represents k.texts y (record { content = mid_then; table = tab })) back (now_stands laws k.texts words_now tab vt class_is th.mid says_now place key low live fits class_some th.midway.writes.root long even_here);
         same = subst (λ (y : ContainerWords × ContainerState). (p : ℕ) (a : Key) → p < rows (kind_in k.starts s) (class_of vt) → version_of vt y.0 p % 2 ≡ 0 → HasLiveKey vn y.0.table p a → under mid_then a ≡ under y.1.content a) (λ d. (back d, knows d)) same_then;

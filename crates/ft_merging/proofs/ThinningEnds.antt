@@ -25,7 +25,7 @@ use Rattle.ft_trace.specs.declared.View.{View}
 use Rattle.ft_trace.specs.Acts.{has_committed, has_lock, is_writing, view_after}
 use Rattle.ft_trace.specs.Addresses.{class_of, container_count, slots}
 use Rattle.ft_trace.specs.Carefuls.{IsDead, HasLiveKey, OpensChanged}
-use Rattle.ft_trace.specs.Holds.{held_words, known_state}
+use Rattle.ft_trace.specs.Holds.{held_unboxed, known_state}
 use Rattle.ft_trace.specs.Kinds.{ClearAs, rows, under, version_at}
 use Rattle.ft_trace.specs.OddVersions.{Shut}
 use Rattle.ft_trace.specs.Traces.{IsReachable}
@@ -39,7 +39,7 @@ use Rattle.ft_trace.proofs.SetKnown as set
 use Rattle.ft_trace.proofs.Tellings.{word_is}
 use Rattle.ft_bank.specs.declared.table.Table.{Table}
 use Rattle.ft_bank.specs.TableNames.{table_id}
-use Rattle.ft_bank.specs.Whole.{OnlyLoaded, OnlyPut}
+use Rattle.ft_bank.specs.Whole.{OnlyLoaded, OnlyWritten}
 use Rattle.ft_bank.specs.WriteSteps.{MayHave}
 use Rattle.ft_bank.proofs.KnownAfterWrites.{work_knows}
 use Rattle.ft_search.specs.Held.{IsHeldAt}
@@ -68,18 +68,18 @@ found_there k v t table key a b shape possible may has is fits there =
     let others = set_of (known_state t v).content in
     let set_is = is_set k v t shape possible may.locked is in
     let here : IsHeldAt (content.Set others) key (Some (a, b)) = subst (λ (z : Content). IsHeldAt z key (Some (a, b))) set_is there in
-    let stands : Represents k.texts (held_words t v) (record { content = content.Set others; table = (known_state t v).table }) = subst (λ (z : Content). Represents k.texts (held_words t v) (record { content = z; table = (known_state t v).table })) set_is may.stands in
-    let says : IsSetWords k.texts (held_words t v).block (0 ∷ 0 ∷ (held_words t v).table) (Some (class_of (table_id table))) (known_state t v).table.fill others = subst (λ (z : Option ℕ). IsSetWords k.texts (held_words t v).block (0 ∷ 0 ∷ (held_words t v).table) z (known_state t v).table.fill others) (class_known k.texts (held_words t v) (known_state t v) (table_id table) may.stands has.root) stands in
-    element_there others key fits (set_fits_words k.texts (held_words t v).block (0 ∷ 0 ∷ (held_words t v).table) (class_of (table_id table)) (known_state t v).table.fill others says)
+    let stands : Represents k.texts (held_unboxed t v) (record { content = content.Set others; table = (known_state t v).table }) = subst (λ (z : Content). Represents k.texts (held_unboxed t v) (record { content = z; table = (known_state t v).table })) set_is may.stands in
+    let says : IsSetWords k.texts (held_unboxed t v).block (0 ∷ 0 ∷ (held_unboxed t v).table) (Some (class_of (table_id table))) (known_state t v).table.fill others = subst (λ (z : Option ℕ). IsSetWords k.texts (held_unboxed t v).block (0 ∷ 0 ∷ (held_unboxed t v).table) z (known_state t v).table.fill others) (class_known k.texts (held_unboxed t v) (known_state t v) (table_id table) may.stands has.root) stands in
+    element_there others key fits (set_fits_words k.texts (held_unboxed t v).block (0 ∷ 0 ∷ (held_unboxed t v).table) (class_of (table_id table)) (known_state t v).table.fill others says)
     (λ none. absurd (let e = sym here.1 ∙ none in cc))
 
 pub missing_there : (k : Shape) (v : View) (t : ℕ) (key : Key) → v.shape ≡ k → ∥ IsReachable v ∥₁ → KnowsEntries k t v → kind_in k.starts t ≡ kind.Set → IsHeldAt (known_state t v).content key None → has_element (set_of (known_state t v).content).elements key ≡ false
 missing_there k v t key shape possible may is none = subst (λ (z : Content). IsHeldAt z key None) (is_set k v t shape possible may.locked is) none
 
 -- it may be read on, while the first one is written
-pub other_stays : (k : Shape) (s t : ℕ) (v w : View) → v.shape ≡ k → OnlyPut s v w → s ≢ t → KnowsEntries k t v → KnowsEntries k t w
+pub other_stays : (k : Shape) (s t : ℕ) (v w : View) → v.shape ≡ k → OnlyWritten s v w → s ≢ t → KnowsEntries k t v → KnowsEntries k t w
 other_stays k s t v w shape only ne may =
-    let same : held_words t v ≡ held_words t w = sym (only.others t (subst (λ (z : Shape). t < container_count z) (sym shape) may.container) (λ e. ne (sym e)) may.locked may.even) in
+    let same : held_unboxed t v ≡ held_unboxed t w = sym (only.others t (subst (λ (z : Shape). t < container_count z) (sym shape) may.container) (λ e. ne (sym e)) may.locked may.even).1 in
     let knows : known_state t v ≡ known_state t w = sym (work_knows v w t only.work) in
     record {
       container = may.container;
@@ -95,7 +95,7 @@ other_begun k s t v u f begun ne may = record {
   keyed = may.keyed;
   locked = ap (λ (z : View). has_lock t z.log) begun ∙ may.locked;
   even = ap (λ (z : View). is_writing t z.log) begun ∙ (ap (λ (b : Bool). cond b true (is_writing t v.log)) (ne_eqb s t ne) ∙ may.even);
-  stands = subst (λ (z : View). Represents k.texts (held_words t z) (known_state t z)) (sym begun) may.stands;
+  stands = subst (λ (z : View). Represents k.texts (held_unboxed t z) (known_state t z)) (sym begun) may.stands;
 }
 
 -- ---- whether an element stays
@@ -122,38 +122,38 @@ module _ (k : Shape) (s : ℕ) (table : Table) (kept : Bool) (others : SetConten
   pub first_known : (known_state s v).content ≡ content.Set first
   first_known = is_set k v s shape possible may.locked is
 
-  held_back : held_words s v ≡ held_words s u
-  held_back = sym (ap (held_words s) begun)
+  held_back : held_unboxed s v ≡ held_unboxed s u
+  held_back = sym (ap (held_unboxed s) begun)
 
   known_back : known_state s v ≡ known_state s u
   known_back = sym (ap (known_state s) begun)
 
-  first_stands : Represents k.texts (held_words s v) (record { content = content.Set first; table = (known_state s v).table })
-  first_stands = subst (λ (z : Content). Represents k.texts (held_words s v) (record { content = z; table = (known_state s v).table })) first_known may.stands
+  first_stands : Represents k.texts (held_unboxed s v) (record { content = content.Set first; table = (known_state s v).table })
+  first_stands = subst (λ (z : Content). Represents k.texts (held_unboxed s v) (record { content = z; table = (known_state s v).table })) first_known may.stands
 
-  pub first_says : IsSetWords k.texts (held_words s v).block (0 ∷ 0 ∷ (held_words s v).table) (Some (class_of t)) (known_state s v).table.fill first
-  first_says = subst (λ (z : Option ℕ). IsSetWords k.texts (held_words s v).block (0 ∷ 0 ∷ (held_words s v).table) z (known_state s v).table.fill first) (class_known k.texts (held_words s v) (known_state s v) t may.stands has.root) first_stands
+  pub first_says : IsSetWords k.texts (held_unboxed s v).block (0 ∷ 0 ∷ (held_unboxed s v).table) (Some (class_of t)) (known_state s v).table.fill first
+  first_says = subst (λ (z : Option ℕ). IsSetWords k.texts (held_unboxed s v).block (0 ∷ 0 ∷ (held_unboxed s v).table) z (known_state s v).table.fill first) (class_known k.texts (held_unboxed s v) (known_state s v) t may.stands has.root) first_stands
 
   pub fill_fits : set.FirstEntriesAreElements → (known_state s v).table.fill ≤ set_entries (class_of t)
   fill_fits elements =
       let f = first_says.filled in
       let g = first_says.table.fill in
-      let r = set.room_is elements k.texts (held_words s v).block (class_of t) (known_state s v).table.fill (table_class k table has.table_in) first (held_words s v).table first_says in
+      let r = set.room_is elements k.texts (held_unboxed s v).block (class_of t) (known_state s v).table.fill (table_class k table has.table_in) first (held_unboxed s v).table first_says in
       omega (arith, f, g, r)
 
-  pub evens : (p : ℕ) → p < rows (kind_in k.starts s) (class_of t) → version_of t (held_words s v) p % 2 ≡ 0
+  pub evens : (p : ℕ) → p < rows (kind_in k.starts s) (class_of t) → version_of t (held_unboxed s v) p % 2 ≡ 0
   evens p less =
-      let shut : Shut (version_at kind.Set (class_of t)) (rows kind.Set (class_of t)) (held_words s v).table = subst (λ (z : Kind). Shut (version_at z (class_of t)) (rows z (class_of t)) (held_words s v).table) (ap kind_of first_known) (shut_known k v s t shape possible may.container may.locked (may.even s) has.root) in
+      let shut : Shut (version_at kind.Set (class_of t)) (rows kind.Set (class_of t)) (held_unboxed s v).table = subst (λ (z : Kind). Shut (version_at z (class_of t)) (rows z (class_of t)) (held_unboxed s v).table) (ap kind_of first_known) (shut_known k v s t shape possible may.container may.locked (may.even s) has.root) in
       shut p (subst (λ (z : Kind). p < rows z (class_of t)) is less)
 
   -- an entry that was never used isn't there
-  pub unused : set.FirstEntriesAreElements → (p : ℕ) (key : Key) → p < set_entries (class_of t) → (known_state s v).table.fill ≤ p → HasLiveKey (slots (class_of t)) (held_words s v).table p key → ⊥
+  pub unused : set.FirstEntriesAreElements → (p : ℕ) (key : Key) → p < set_entries (class_of t) → (known_state s v).table.fill ≤ p → HasLiveKey (slots (class_of t)) (held_unboxed s v).table p key → ⊥
   unused elements p key less up live =
       let class = table_class k table has.table_in in
       let filled = first_says.filled in
-      let room = set.room_is elements k.texts (held_words s v).block (class_of t) (known_state s v).table.fill class first (held_words s v).table first_says in
+      let room = set.room_is elements k.texts (held_unboxed s v).block (class_of t) (known_state s v).table.fill class first (held_unboxed s v).table first_says in
       let none = (first_says.table.unused p (omega (arith, filled, up)) (omega (arith, room, less))).kind in
-      let word = word_is (λ hash. set_slots hash (class_mask (class_of t)) (class_mask (class_of t) + 14)) (set_room (class_mask (class_of t))) k.texts (class_of t) class first_says.used (held_words s v).table first_says.table p 2 in
+      let word = word_is (λ hash. set_slots hash (class_mask (class_of t)) (class_mask (class_of t) + 14)) (set_room (class_mask (class_of t))) k.texts (class_of t) class first_says.used (held_unboxed s v).table first_says.table p 2 in
       let kind = live.0 in
       let some = (kind_range key).0 in
       absurd (omega (arith, none, word, kind, some))
@@ -176,7 +176,7 @@ module _ (k : Shape) (s : ℕ) (table : Table) (kept : Bool) (others : SetConten
       opened = subst (λ (z : ContainerWords). (p : ℕ) → p < rows (kind_in k.starts s) (class_of t) → version_of t z p % 2 ≡ 1 → p < (known_state s v).table.fill) held_back (λ p less odd. let e = evens p less in absurd (omega (arith, e, odd)));
     };
     first_is = ap (λ (z : ContainerState). z.content) (sym known_back) ∙ first_known;
-    fits = set_fits_words k.texts (held_words s v).block (0 ∷ 0 ∷ (held_words s v).table) (class_of t) (known_state s v).table.fill first first_says;
+    fits = set_fits_words k.texts (held_unboxed s v).block (0 ∷ 0 ∷ (held_unboxed s v).table) (class_of t) (known_state s v).table.fill first first_says;
     comes = ap (λ (es : List Element). content.Set (record { next = first.next; elements = es })) (spared_own kept others first first.elements (λ key there. there));
     even = subst (λ (z : ContainerWords). (p : ℕ) → p < rows (kind_in k.starts s) (class_of t) → 0 ≤ p → p < (known_state s v).table.fill → version_of t z p % 2 ≡ 0) held_back (λ p less up low. evens p less);
     done = λ p key less none ok live. absurd (omega (arith, none));
@@ -185,7 +185,7 @@ module _ (k : Shape) (s : ℕ) (table : Table) (kept : Bool) (others : SetConten
   }
 
   -- after the last one
-  module _ (laws : Laws) (w : View) (only : OnlyPut s u w) (last : ℕ) (left : SetContent) (table_left : TableUse) (th : IsThinned k s table kept others first (record { content = content.Set left; table = table_left }) last last w) (called : Call) (said : Reply) (leaves : Leaves s called said (record { content = content.Set left; table = table_left }) v) where
+  module _ (laws : Laws) (w : View) (only : OnlyWritten s u w) (last : ℕ) (left : SetContent) (table_left : TableUse) (th : IsThinned k s table kept others first (record { content = content.Set left; table = table_left }) last last w) (called : Call) (said : Reply) (leaves : Leaves s called said (record { content = content.Set left; table = table_left }) v) where
     abbrev after : ContainerState
     after = record { content = content.Set left; table = table_left }
 
@@ -195,19 +195,19 @@ module _ (k : Shape) (s : ℕ) (table : Table) (kept : Bool) (others : SetConten
     midway : IsMidway k s table after w
     midway = subst (λ (z : Content). IsMidway k s table (record { content = z; table = table_left }) w) (thinned_all k s table kept others first after last last w is th laws.elements refl) th.midway
 
-    here : ClearAs kind.Set k.texts (class_of t) (held_words s w).table (known_state s v).content (content.Set left)
+    here : ClearAs kind.Set k.texts (class_of t) (held_unboxed s w).table (known_state s v).content (content.Set left)
     here =
-        clear_of laws k.texts (held_words s w) t (table_class k table has.table_in) midway.writes.root (content.Set left) after refl tt midway.stands (known_state s v).content
+        clear_of laws k.texts (held_unboxed s w) t (table_class k table has.table_in) midway.writes.root (content.Set left) after refl tt midway.stands (known_state s v).content
         (λ p key low even live. midway.same p key (subst (λ (z : Kind). p < rows z (class_of t)) (sym is) low) even live ∙ ap (λ (z : ContainerState). under z.content key) known_now)
-        (subst (λ (z : Kind × ContainerState). OpensChanged (slots (class_of t)) (rows z.0 (class_of t)) (held_words s w).table (under z.1.content) (under (content.Set left))) (λ d. (is d, known_now d)) midway.opens)
+        (subst (λ (z : Kind × ContainerState). OpensChanged (slots (class_of t)) (rows z.0 (class_of t)) (held_unboxed s w).table (under z.1.content) (under (content.Set left))) (λ d. (is d, known_now d)) midway.opens)
 
-    clears : (q : ℕ) → root_in (held_words s w) ≡ suc q → ClearAs (kind_in v.shape.starts s) v.shape.texts (class_of q) (held_words s w).table (known_state s v).content after.content
+    clears : (q : ℕ) → root_in (held_unboxed s w) ≡ suc q → ClearAs (kind_in v.shape.starts s) v.shape.texts (class_of q) (held_unboxed s w).table (known_state s v).content after.content
     clears q names =
         let same : t ≡ q = let e : suc t ≡ suc q = sym midway.writes.root ∙ names in omega (arith, e) in
         let kind_now : kind.Set ≡ kind_in v.shape.starts s = sym (ap (λ (z : Shape). kind_in z.starts s) shape ∙ is) in
         let texts_now : k.texts ≡ v.shape.texts = sym (ap (λ (z : Shape). z.texts) shape) in
         let class_now : class_of t ≡ class_of q = ap class_of same in
-        subst (λ (z : Kind × List ℕ × ℕ). ClearAs z.0 z.1 z.2 (held_words s w).table (known_state s v).content (content.Set left)) (λ d. (kind_now d, texts_now d, class_now d)) here
+        subst (λ (z : Kind × List ℕ × ℕ). ClearAs z.0 z.1 z.2 (held_unboxed s w).table (known_state s v).content (content.Set left)) (λ d. (kind_now d, texts_now d, class_now d)) here
 
     pub thinned_finishes : MayFinishAll k s table table_left.fill called said w
     thinned_finishes = record {
@@ -222,12 +222,12 @@ module _ (k : Shape) (s : ℕ) (table : Table) (kept : Bool) (others : SetConten
 -- ---- a set that has none
 
 -- it has no elements
-pub none_thinned : (k : Shape) (v : View) (s : ℕ) (kept : Bool) (others : ContainerState) → v.shape ≡ k → ∥ IsReachable v ∥₁ → MayWriteEntries k s v → kind_in k.starts s ≡ kind.Set → root_in (held_words s v) ≡ 0 → thinned_state kept others (known_state s v) ≡ known_state s v
+pub none_thinned : (k : Shape) (v : View) (s : ℕ) (kept : Bool) (others : ContainerState) → v.shape ≡ k → ∥ IsReachable v ∥₁ → MayWriteEntries k s v → kind_in k.starts s ≡ kind.Set → root_in (held_unboxed s v) ≡ 0 → thinned_state kept others (known_state s v) ≡ known_state s v
 none_thinned k v s kept others shape possible may is bare =
     let set_is = is_set k v s shape possible may.locked is in
     let first = set_of (known_state s v).content in
-    let stands : Represents k.texts (held_words s v) (record { content = content.Set first; table = (known_state s v).table }) = subst (λ (z : Content). Represents k.texts (held_words s v) (record { content = z; table = (known_state s v).table })) set_is may.stands in
-    let none = no_elements k.texts (held_words s v).block (0 ∷ 0 ∷ (held_words s v).table) (known_state s v).table.class (known_state s v).table.fill first stands bare in
+    let stands : Represents k.texts (held_unboxed s v) (record { content = content.Set first; table = (known_state s v).table }) = subst (λ (z : Content). Represents k.texts (held_unboxed s v) (record { content = z; table = (known_state s v).table })) set_is may.stands in
+    let none = no_elements k.texts (held_unboxed s v).block (0 ∷ 0 ∷ (held_unboxed s v).table) (known_state s v).table.class (known_state s v).table.fill first stands bare in
     let f : List Element → List Element = filter (λ (element : Element). stays kept (set_of others.content) element.key) in
     let same : f first.elements ≡ first.elements = ap f none ∙ sym none in
     λ i. record { content = (let e : content.Set (record { next = first.next; elements = f first.elements }) ≡ (known_state s v).content = ap (λ (z : List Element). content.Set (record { next = first.next; elements = z })) same ∙ sym set_is in e) i; table = (known_state s v).table }
@@ -269,5 +269,5 @@ module _ (v u : View) (l : OnlyLoaded v u) where
   }
 
 -- how many entries of its table are used
-pub fill_known : (k : Shape) (o : ℕ) (v : View) → MayWriteEntries k o v → slice_index (held_words o v).block 2 ≡ (known_state o v).table.fill
-fill_known k o v may = (head_of k.texts (held_words o v).block (0 ∷ 0 ∷ (held_words o v).table) (known_state o v).table (known_state o v).content may.stands).fill_is
+pub fill_known : (k : Shape) (o : ℕ) (v : View) → MayWriteEntries k o v → slice_index (held_unboxed o v).block 2 ≡ (known_state o v).table.fill
+fill_known k o v may = (head_of k.texts (held_unboxed o v).block (0 ∷ 0 ∷ (held_unboxed o v).table) (known_state o v).table (known_state o v).content may.stands).fill_is

@@ -4,7 +4,7 @@ use Rattle.ft_model.specs.declared.script.Kind.{Kind}
 use Rattle.ft_model.specs.Worlds.{serial_of}
 use Rattle.ft_trace.specs.declared.Shape.{Shape}
 use Rattle.ft_trace.specs.declared.View.{View}
-use Rattle.ft_trace.specs.Holds.{held_words, known_state}
+use Rattle.ft_trace.specs.Holds.{held_unboxed, known_state}
 use Rattle.ft_trace.specs.ContainerStates.{kind_in}
 use Rattle.ft_new_keys.specs.KeyGrowth.{KnowsKeyed}
 use Rattle.ft_new_keys.specs.Placing.{AreCounts}
@@ -20,6 +20,6 @@ pub record MayMerge (k : Shape) (kind : Kind) (merge : Merge) (v : View) : Type 
   pub way : kind_in k.starts merge.o ≡ kind
   pub other_way : kind_in k.starts merge.t ≡ kind
   pub others : merge.others ≡ (known_state merge.t v).table.fill
-  pub counts : AreCounts (held_words merge.o v).block merge.counts
+  pub counts : AreCounts (held_unboxed merge.o v).block merge.counts
   pub more : merge.more ≡ new_keys (known_state merge.o v).content (known_state merge.t v).content
   pub serials : serial_of (known_state merge.o v).content + 65536 < 2 ^ 63

@@ -2,12 +2,13 @@
 //! that was put is made even again, and the container's.
 ghost use Rattle.std.specs.Prelude.{◌≡◌, ◌+◌, ◌<◌, ◌≤◌};
 ghost use Rattle.ft_trace.specs.Addresses.{class_of};
-ghost use Rattle.ft_trace.specs.Holds.{held_words, known_state};
+ghost use Rattle.ft_trace.specs.Holds.{held_unboxed, known_state};
 ghost use Rattle.ft_trace.specs.Kinds.{rows};
 ghost use Rattle.ft_trace.specs.Pictures.{root_in};
 ghost use Rattle.ft_trace.specs.ContainerStates.{kind_in};
 ghost use Rattle.ft_bank.specs.Passes.{shape_of, view, IsPassOf};
 ghost use Rattle.ft_bank.specs.PassSections.{stack_of};
+ghost use Rattle.ft_bank.specs.SameBoxes.{SameReferences};
 ghost use Rattle.ft_bank.specs.TableNames.{table_id};
 ghost use Rattle.ft_bank.specs.Whole.{EndsWrite, OnlyPut};
 ghost use Rattle.ft_merging.specs.Internal.EntriesAtOnce.{IsClosing, MayFinishAll};
@@ -72,6 +73,7 @@ pub(crate) fn finish_entries(
     ensures pass { IsPassOf bank.now pass.new }
     ensures stack { stack_of pass.new ≡ stack_of pass.old }
     ensures ends { EndsWrite called.now said.now result (view pass.old) (view pass.new) }
+    ensures references { SameReferences (view pass.old) (view pass.new) }
 {
     let number = bank.commit(pass, called, said);
     close_all(bank, pass, o, table, fill);

@@ -4,7 +4,7 @@ ghost use Rattle.ft_layout.specs.Containers.{class_mask};
 ghost use Rattle.ft_layout.specs.Tables.{UsedEntry, is_live};
 ghost use Rattle.ft_keys.specs.Ways.{IsTableOf};
 ghost use Rattle.ft_trace.specs.Addresses.{class_of};
-ghost use Rattle.ft_trace.specs.Holds.{held_words, known_state};
+ghost use Rattle.ft_trace.specs.Holds.{held_unboxed, known_state};
 ghost use Rattle.ft_trace.specs.ContainerStates.{kind_in};
 ghost use Rattle.ft_bank.specs.Passes.{shape_of, view, IsPassOf};
 ghost use Rattle.ft_bank.specs.PassSections.{stack_of};
@@ -43,7 +43,7 @@ fn is_new_at(
     ensures only { OnlyLoaded (view pass.old) (view pass.new) }
     ensures new { (used : List UsedEntry) →
         IsTableOf way (shape_of bank.now).texts (class_mask (class_of (table_id table))) used
-        (0 ∷ 0 ∷ (held_words t (view pass.old)).table) →
+        (0 ∷ 0 ∷ (held_unboxed t (view pass.old)).table) →
         length used ≡ (known_state t (view pass.old)).table.fill → (any : UsedEntry) →
         result ≡ (is_live (slice_index_or used place any)
         && not (holds (known_state o (view pass.old)).content (slice_index_or used place any).key)) }
@@ -82,7 +82,7 @@ pub(crate) fn count_new(
     ensures few { result ≤ fill }
     ensures count { (used : List UsedEntry) →
         IsTableOf way (shape_of bank.now).texts (class_mask (class_of (table_id table))) used
-        (0 ∷ 0 ∷ (held_words t (view pass.old)).table) →
+        (0 ∷ 0 ∷ (held_unboxed t (view pass.old)).table) →
         length used ≡ (known_state t (view pass.old)).table.fill →
         result ≡ lacking (known_state o (view pass.old)).content used }
 {

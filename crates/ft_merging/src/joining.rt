@@ -8,12 +8,13 @@ ghost use Rattle.ft_model.specs.TableUses.{passes_cap};
 ghost use Rattle.ft_model.specs.Worlds.{length_of, serial_of};
 ghost use Rattle.ft_trace.specs.Acts.{flight, used};
 ghost use Rattle.ft_trace.specs.Addresses.{class_of};
-ghost use Rattle.ft_trace.specs.Holds.{held_words, known_state};
+ghost use Rattle.ft_trace.specs.Holds.{held_unboxed, known_state};
 ghost use Rattle.ft_trace.specs.Pictures.{root_in};
 ghost use Rattle.ft_trace.specs.ContainerStates.{kind_in};
 ghost use Rattle.ft_bank.specs.Passes.{shape_of, view, IsPassOf};
 ghost use Rattle.ft_bank.specs.PassSections.{stack_of};
 ghost use Rattle.ft_bank.specs.TableNames.{table_id};
+ghost use Rattle.ft_bank.specs.SameBoxes.{SameReferences};
 ghost use Rattle.ft_bank.specs.Whole.{Wrote};
 ghost use Rattle.ft_table_calls.specs.Adding.{IsAdded};
 ghost use Rattle.ft_search.specs.Rounds.{kind_by};
@@ -49,12 +50,15 @@ fn join_here(
     requires merge { MayMerge (shape_of bank.now) (kind_by way) merge.now (view pass.old) }
     requires may { MayAddKey (shape_of bank.now) merge.now.o (Some own) (view pass.old) }
     requires few { passes_cap
-        (joined (known_state merge.now.o (view pass.old)).content (known_state merge.now.t (view pass.old)).content) ≡ false }
+        (joined (known_state merge.now.o (view pass.old)).content (known_state merge.now.t (view pass.old)).content)
+        ≡ false }
     requires joins { JoinsKeys merge.now.o merge.now.t called.now (view pass.old) }
-    requires room { join_takes (known_state merge.now.o (view pass.old)) (known_state merge.now.t (view pass.old)).content ≡ None }
+    requires room { join_takes (known_state merge.now.o (view pass.old))
+        (known_state merge.now.t (view pass.old)).content ≡ None }
     ensures pass { IsPassOf bank.now pass.new }
     ensures stack { stack_of pass.new ≡ stack_of pass.old }
-    ensures added { IsAdded (shape_of bank.now) None false called.now reply.Done (view pass.old) (view pass.new) result }
+    ensures added { IsAdded (shape_of bank.now) None false called.now reply.Done (view pass.old) (view pass.new)
+        result }
 {
     used_entries_follow_a_dict();
     used_entries_follow_a_set();
@@ -90,23 +94,26 @@ fn join_in_new(
     requires pass { IsPassOf bank.now pass.old }
     requires merge { MayMerge (shape_of bank.now) (kind_by way) merge.now (view pass.old) }
     requires may { MayGrowKeyed (shape_of bank.now) merge.now.o old new (view pass.old) }
-    requires apart { root_in (held_words merge.now.o (view pass.old)) ≢ suc (table_id new) }
+    requires apart { root_in (held_unboxed merge.now.o (view pass.old)) ≢ suc (table_id new) }
     requires few { passes_cap
-        (joined (known_state merge.now.o (view pass.old)).content (known_state merge.now.t (view pass.old)).content) ≡ false }
+        (joined (known_state merge.now.o (view pass.old)).content (known_state merge.now.t (view pass.old)).content)
+        ≡ false }
     requires joins { JoinsKeys merge.now.o merge.now.t called.now (view pass.old) }
-    requires takes { join_takes (known_state merge.now.o (view pass.old)) (known_state merge.now.t (view pass.old)).content
+    requires takes { join_takes (known_state merge.now.o (view pass.old))
+        (known_state merge.now.t (view pass.old)).content
         ≡ Some (class_of (table_id new)) }
     ensures pass { IsPassOf bank.now pass.new }
     ensures stack { stack_of pass.new ≡ stack_of pass.old }
     ensures wrote { Wrote called.now reply.Done result (view pass.old) (view pass.new) }
-    ensures root { root_in (held_words merge.now.o (view pass.new)) ≡ suc (table_id new) }
+    ensures references { SameReferences (view pass.old) (view pass.new) }
+    ensures root { root_in (held_unboxed merge.now.o (view pass.new)) ≡ suc (table_id new) }
 {
     used_entries_follow_a_dict();
     used_entries_follow_a_set();
     words_are_of_one_content();
     let counts = merge.counts;
     fill(bank, pass, merge.o, way, old, new, counts.fill);
-    begin_in(bank, pass, merge.o, old, new);
+    begin_in(bank, pass, merge.o, way, old, new);
     put_counts(
         bank,
         pass,
@@ -152,10 +159,12 @@ fn join_in_taken(
     requires merge { MayMerge (shape_of bank.now) (kind_by way) merge.now (view pass.old) }
     requires may { MayAddKey (shape_of bank.now) merge.now.o old (view pass.old) }
     requires few { passes_cap
-        (joined (known_state merge.now.o (view pass.old)).content (known_state merge.now.t (view pass.old)).content) ≡ false }
+        (joined (known_state merge.now.o (view pass.old)).content (known_state merge.now.t (view pass.old)).content)
+        ≡ false }
     requires joins { JoinsKeys merge.now.o merge.now.t called.now (view pass.old) }
     requires class { IsClass class }
-    requires takes { join_takes (known_state merge.now.o (view pass.old)) (known_state merge.now.t (view pass.old)).content
+    requires takes { join_takes (known_state merge.now.o (view pass.old))
+        (known_state merge.now.t (view pass.old)).content
         ≡ Some class }
     ensures pass { IsPassOf bank.now pass.new }
     ensures stack { stack_of pass.new ≡ stack_of pass.old }
@@ -186,12 +195,15 @@ fn join_in_old(
     requires merge { MayMerge (shape_of bank.now) (kind_by way) merge.now (view pass.old) }
     requires may { MayAddKey (shape_of bank.now) merge.now.o old (view pass.old) }
     requires few { passes_cap
-        (joined (known_state merge.now.o (view pass.old)).content (known_state merge.now.t (view pass.old)).content) ≡ false }
+        (joined (known_state merge.now.o (view pass.old)).content (known_state merge.now.t (view pass.old)).content)
+        ≡ false }
     requires joins { JoinsKeys merge.now.o merge.now.t called.now (view pass.old) }
-    requires room { join_takes (known_state merge.now.o (view pass.old)) (known_state merge.now.t (view pass.old)).content ≡ None }
+    requires room { join_takes (known_state merge.now.o (view pass.old))
+        (known_state merge.now.t (view pass.old)).content ≡ None }
     ensures pass { IsPassOf bank.now pass.new }
     ensures stack { stack_of pass.new ≡ stack_of pass.old }
-    ensures added { IsAdded (shape_of bank.now) None false called.now reply.Done (view pass.old) (view pass.new) result }
+    ensures added { IsAdded (shape_of bank.now) None false called.now reply.Done (view pass.old) (view pass.new)
+        result }
 {
     used_entries_follow_a_dict();
     used_entries_follow_a_set();
@@ -220,7 +232,8 @@ fn join_more(
     ensures stack { stack_of pass.new ≡ stack_of pass.old }
     ensures added { IsAdded (shape_of bank.now)
         (join_takes (known_state merge.now.o (view pass.old)) (known_state merge.now.t (view pass.old)).content)
-        (passes_cap (joined (known_state merge.now.o (view pass.old)).content (known_state merge.now.t (view pass.old)).content))
+        (passes_cap (joined (known_state merge.now.o (view pass.old)).content
+        (known_state merge.now.t (view pass.old)).content))
         called.now reply.Done (view pass.old) (view pass.new) result }
 {
     used_entries_follow_a_dict();
@@ -286,8 +299,10 @@ fn join_nothing(bank: &Bank, pass: &mut Pass, o: Object, t: Object, called: &Cal
         ≡ (known_state o (view pass.old)).content }
     ensures pass { IsPassOf bank.now pass.new }
     ensures stack { stack_of pass.new ≡ stack_of pass.old }
-    ensures added { IsAdded (shape_of bank.now) (join_takes (known_state o (view pass.old)) (known_state t (view pass.old)).content)
-        (passes_cap (joined (known_state o (view pass.old)).content (known_state t (view pass.old)).content)) called.now reply.Done
+    ensures added { IsAdded (shape_of bank.now)
+        (join_takes (known_state o (view pass.old)) (known_state t (view pass.old)).content)
+        (passes_cap (joined (known_state o (view pass.old)).content (known_state t (view pass.old)).content))
+        called.now reply.Done
         (view pass.old) (view pass.new) result }
 {
     used_entries_follow_a_dict();

@@ -5,11 +5,12 @@ ghost use Rattle.ft_model.specs.declared.content.Content.TheVariants as content;
 ghost use Rattle.ft_model.specs.declared.reply.Reply.TheVariants as reply;
 ghost use Rattle.ft_model.specs.declared.script.Kind.TheVariants as kind;
 ghost use Rattle.ft_model.specs.TableUses.{passes_cap};
-ghost use Rattle.ft_trace.specs.Holds.{held_words, known_state};
+ghost use Rattle.ft_trace.specs.Holds.{held_unboxed, known_state};
 ghost use Rattle.ft_trace.specs.Pictures.{root_in};
 ghost use Rattle.ft_trace.specs.ContainerStates.{kind_in};
 ghost use Rattle.ft_bank.specs.Passes.{shape_of, view, IsPassOf};
 ghost use Rattle.ft_bank.specs.PassSections.{stack_of};
+ghost use Rattle.ft_bank.specs.SameBoxes.{SameReferences};
 ghost use Rattle.ft_bank.specs.Whole.{OnlyLoaded, Wrote};
 ghost use Rattle.ft_search.specs.OneEntryWrites.{MayWriteEntries};
 ghost use Rattle.ft_new_keys.specs.KeyGrowth.{KnowsKeyed, MayAddKey};
@@ -61,13 +62,17 @@ pub fn part_here(bank: &Bank, pass: &mut Pass, own: Table, merge: &Merge, called
     requires merge { MayMerge (shape_of bank.now) kind.Set merge.now (view pass.old) }
     requires may { MayAddKey (shape_of bank.now) merge.now.o (Some own) (view pass.old) }
     requires few { passes_cap (content.Set
-        (parted (known_state merge.now.o (view pass.old)).content (known_state merge.now.t (view pass.old)).content)) ≡ false }
+        (parted (known_state merge.now.o (view pass.old)).content (known_state merge.now.t (view pass.old)).content))
+        ≡ false }
     requires parts { PartsSets merge.now.o merge.now.t called.now (view pass.old) }
-    requires room { part_takes (known_state merge.now.o (view pass.old)) (known_state merge.now.t (view pass.old)).content ≡ None }
+    requires room { part_takes (known_state merge.now.o (view pass.old))
+        (known_state merge.now.t (view pass.old)).content ≡ None }
     ensures pass { IsPassOf bank.now pass.new }
     ensures stack { stack_of pass.new ≡ stack_of pass.old }
     ensures wrote { Wrote called.now reply.Done result (view pass.old) (view pass.new) }
-    ensures root { root_in (held_words merge.now.o (view pass.new)) ≡ root_in (held_words merge.now.o (view pass.old)) }
+    ensures references { SameReferences (view pass.old) (view pass.new) }
+    ensures root { root_in (held_unboxed merge.now.o (view pass.new))
+        ≡ root_in (held_unboxed merge.now.o (view pass.old)) }
 {
     used_entries_follow_a_dict();
     used_entries_follow_a_set();

@@ -9,7 +9,7 @@ ghost use Rattle.ft_model.specs.Worlds.{kind_of};
 ghost use Rattle.ft_trace.specs.declared.View.{View};
 ghost use Rattle.ft_trace.specs.Acts.{has_committed};
 ghost use Rattle.ft_trace.specs.Addresses.{class_of, slots};
-ghost use Rattle.ft_trace.specs.Holds.{held_words, known_state};
+ghost use Rattle.ft_trace.specs.Holds.{held_unboxed, known_state};
 ghost use Rattle.ft_trace.specs.Kinds.{rows};
 ghost use Rattle.ft_trace.specs.Pictures.{Represents, entry_field, root_in};
 ghost use Rattle.ft_trace.specs.ContainerStates.{ContainerState, kind_in};
@@ -17,7 +17,8 @@ ghost use Rattle.ft_trace.specs.WholeWrites.{MayPuts, with_puts};
 ghost use Rattle.ft_bank.specs.Passes.{shape_of, view, IsPassOf};
 ghost use Rattle.ft_bank.specs.PassSections.{stack_of};
 ghost use Rattle.ft_bank.specs.TableNames.{table_id};
-ghost use Rattle.ft_bank.specs.Whole.{EndsWrite, OnlyLoaded, OnlyPut};
+ghost use Rattle.ft_bank.specs.SameBoxes.{SameReferences};
+ghost use Rattle.ft_bank.specs.Whole.{EndsWrite, OnlyLoaded, OnlyWritten};
 ghost use Rattle.ft_search.specs.Rounds.{kind_by};
 ghost use Rattle.ft_search.specs.OneEntryWrites.{WritesEntries};
 ghost use Rattle.ft_new_keys.specs.declared.counts.Counts.{Counts};
@@ -50,6 +51,7 @@ fn seek_in(
     hash: u64,
 ) -> Spot
     requires pass { IsPassOf bank.now pass.old }
+    requires way { kind_in (shape_of bank.now).starts o ≡ kind_by way }
     requires writes { WritesEntries (shape_of bank.now) o own (view pass.old) }
     requires hash { hash ≡ hash_of (shape_of bank.now).texts key }
     requires fits { FitsKey key }
@@ -58,8 +60,8 @@ fn seek_in(
     ensures only { OnlyLoaded (view pass.old) (view pass.new) }
     ensures low { hash_of (shape_of bank.now).texts key < 2 ^ 64 }
     ensures spot { (mid : ContainerState) → kind_of mid.content ≡ kind_by way →
-        Represents (shape_of bank.now).texts (held_words o (view pass.old)) mid →
-        IsSought (shape_of bank.now) way own key (held_words o (view pass.old)) mid.content result }
+        Represents (shape_of bank.now).texts (held_unboxed o (view pass.old)) mid →
+        IsSought (shape_of bank.now) way own key (held_unboxed o (view pass.old)) mid.content result }
 {
     used_entries_follow_a_dict();
     used_entries_follow_a_set();
@@ -83,17 +85,20 @@ fn put_stored(
     requires writes { WritesEntries (shape_of bank.now) o own (view pass.old) }
     requires place { place < rows (kind_in (shape_of bank.now).starts o) (class_of (table_id own)) }
     requires early { has_committed o (view pass.old).log ≡ false }
-    requires old_kind { old.0 ≡ entry_field (slots (class_of (table_id own))) (held_words o (view pass.old)).table place 4 }
-    requires old_payload { old.1 ≡ entry_field (slots (class_of (table_id own))) (held_words o (view pass.old)).table place 5 }
-    requires may { MayPuts (kind_in (shape_of bank.now).starts o) (table_id own) (known_state o (view pass.old)).content false
-        (held_words o (view pass.old))
-        (stored_puts (slots (class_of (table_id own))) (held_words o (view pass.old)).table place stored) }
+    requires old_kind { old.0 ≡ entry_field (slots (class_of (table_id own)))
+        (held_unboxed o (view pass.old)).table place 4 }
+    requires old_payload { old.1 ≡ entry_field (slots (class_of (table_id own)))
+        (held_unboxed o (view pass.old)).table place 5 }
+    requires may { MayPuts (kind_in (shape_of bank.now).starts o) (table_id own)
+        (known_state o (view pass.old)).content false
+        (held_unboxed o (view pass.old))
+        (stored_puts (slots (class_of (table_id own))) (held_unboxed o (view pass.old)).table place stored) }
     ensures pass { IsPassOf bank.now pass.new }
     ensures stack { stack_of pass.new ≡ stack_of pass.old }
     ensures writes { WritesEntries (shape_of bank.now) o own (view pass.new) }
-    ensures only { OnlyPut o (view pass.old) (view pass.new) }
-    ensures words { held_words o (view pass.new) ≡ with_puts (held_words o (view pass.old))
-        (stored_puts (slots (class_of (table_id own))) (held_words o (view pass.old)).table place stored) }
+    ensures only { OnlyWritten o (view pass.old) (view pass.new) }
+    ensures words { held_unboxed o (view pass.new) ≡ with_puts (held_unboxed o (view pass.old))
+        (stored_puts (slots (class_of (table_id own))) (held_unboxed o (view pass.old)).table place stored) }
 {
     match stored {
         Stored::Plain(value) => {
@@ -137,16 +142,17 @@ fn join_at(
     requires other_way { kind_in (shape_of bank.now).starts t ≡ kind_by way }
     requires place { place < (known_state t (view pass.old)).table.fill }
     requires joining { IsJoining (shape_of bank.now) o way own t table
-        (joined (known_state o (view pass.old)).content (known_state t (view pass.old)).content) end place counts (view pass.old) }
+        (joined (known_state o (view pass.old)).content (known_state t (view pass.old)).content) end place counts
+        (view pass.old) }
     ensures pass { IsPassOf bank.now pass.new }
     ensures stack { stack_of pass.new ≡ stack_of pass.old }
-    ensures only { OnlyPut o (view pass.old) (view pass.new) }
+    ensures only { OnlyWritten o (view pass.old) (view pass.new) }
     ensures joining { IsJoining (shape_of bank.now) o way own t table
         (joined (known_state o (view pass.old)).content (known_state t (view pass.old)).content) end (place + 1) result
         (view pass.new) }
     ensures more { counts.fill ≤ result.fill }
     ensures keeps { kind_by way ≡ kind.Set →
-        KeepsBelow (table_id own) counts.fill (held_words o (view pass.old)) (held_words o (view pass.new)) }
+        KeepsBelow (table_id own) counts.fill (held_unboxed o (view pass.old)) (held_unboxed o (view pass.new)) }
 {
     let _ = end;
     versions_change_nothing();
@@ -195,14 +201,16 @@ pub(crate) fn join_all(
     requires other_way { kind_in (shape_of bank.now).starts t ≡ kind_by way }
     requires fill { fill ≡ (known_state t (view pass.old)).table.fill }
     requires joining { IsJoining (shape_of bank.now) o way own t table
-        (joined (known_state o (view pass.old)).content (known_state t (view pass.old)).content) end 0 first (view pass.old) }
+        (joined (known_state o (view pass.old)).content (known_state t (view pass.old)).content) end 0 first
+        (view pass.old) }
     ensures pass { IsPassOf bank.now pass.new }
     ensures stack { stack_of pass.new ≡ stack_of pass.old }
-    ensures only { OnlyPut o (view pass.old) (view pass.new) }
+    ensures only { OnlyWritten o (view pass.old) (view pass.new) }
     ensures joining { IsJoining (shape_of bank.now) o way own t table
-        (joined (known_state o (view pass.old)).content (known_state t (view pass.old)).content) end fill result (view pass.new) }
+        (joined (known_state o (view pass.old)).content (known_state t (view pass.old)).content) end fill result
+        (view pass.new) }
     ensures keeps { kind_by way ≡ kind.Set →
-        KeepsBelow (table_id own) first.fill (held_words o (view pass.old)) (held_words o (view pass.new)) }
+        KeepsBelow (table_id own) first.fill (held_unboxed o (view pass.old)) (held_unboxed o (view pass.new)) }
 {
     let mut counts = first;
     for place in 0..fill {
@@ -232,15 +240,17 @@ pub(crate) fn join_table(
     requires other_way { kind_in (shape_of bank.now).starts t ≡ kind_by way }
     requires fill { fill ≡ (known_state t (view pass.old)).table.fill }
     requires joining { IsJoining (shape_of bank.now) o way own t table
-        (joined (known_state o (view pass.old)).content (known_state t (view pass.old)).content) end 0 first (view pass.old) }
-    requires finishes { (u : View) (counts : Counts) → OnlyPut o (view pass.old) u →
+        (joined (known_state o (view pass.old)).content (known_state t (view pass.old)).content) end 0 first
+        (view pass.old) }
+    requires finishes { (u : View) (counts : Counts) → OnlyWritten o (view pass.old) u →
         IsJoining (shape_of bank.now) o way own t table
         (joined (known_state o (view pass.old)).content (known_state t (view pass.old)).content) end fill counts u →
         MayFinishAll (shape_of bank.now) o own end called.now reply.Done u }
     ensures pass { IsPassOf bank.now pass.new }
     ensures stack { stack_of pass.new ≡ stack_of pass.old }
-    ensures ends { (u : View) × OnlyPut o (view pass.old) u × (root_in (held_words o u) ≡ suc (table_id own))
+    ensures ends { (u : View) × OnlyWritten o (view pass.old) u × (root_in (held_unboxed o u) ≡ suc (table_id own))
         × EndsWrite called.now reply.Done result u (view pass.new) }
+    ensures references { SameReferences (view pass.old) (view pass.new) }
 {
     join_all(bank, pass, o, way, own, t, table, fill, end, first);
     finish_entries(bank, pass, o, own, end, called, &Reply::Done)

@@ -10,14 +10,15 @@ ghost use Rattle.ft_model.specs.Contents.{has_element};
 ghost use Rattle.ft_model.specs.Worlds.{set_of};
 ghost use Rattle.ft_trace.specs.Addresses.{class_of, slots};
 ghost use Rattle.ft_trace.specs.Carefuls.{HasLiveKey};
-ghost use Rattle.ft_trace.specs.Holds.{held_words, known_state};
+ghost use Rattle.ft_trace.specs.Holds.{held_unboxed, known_state};
 ghost use Rattle.ft_trace.specs.Kinds.{rows};
 ghost use Rattle.ft_trace.specs.Pictures.{root_in};
 ghost use Rattle.ft_trace.specs.ContainerStates.{ContainerState, kind_in};
 ghost use Rattle.ft_bank.specs.Passes.{shape_of, view, IsPassOf};
 ghost use Rattle.ft_bank.specs.PassSections.{stack_of};
 ghost use Rattle.ft_bank.specs.TableNames.{table_id};
-ghost use Rattle.ft_bank.specs.Whole.{OnlyLoaded, OnlyPut, Wrote};
+ghost use Rattle.ft_bank.specs.SameBoxes.{SameReferences};
+ghost use Rattle.ft_bank.specs.Whole.{OnlyLoaded, OnlyWritten, Wrote};
 ghost use Rattle.ft_search.specs.OneEntryWrites.{HasTable, KnowsEntries, Leaves, MayWriteEntries};
 ghost use Rattle.ft_merging.specs.Thinning.{stays, thinned_state};
 ghost use Rattle.ft_merging.specs.Internal.ThinningSteps.{IsThinned};
@@ -83,10 +84,10 @@ fn goes_at(
     ensures stack { stack_of pass.new ≡ stack_of pass.old }
     ensures only { OnlyLoaded (view pass.old) (view pass.new) }
     ensures goes { (key : Key) → result ≡ Some key →
-        HasLiveKey (slots (class_of (table_id table))) (held_words s (view pass.old)).table place key × FitsKey key
+        HasLiveKey (slots (class_of (table_id table))) (held_unboxed s (view pass.old)).table place key × FitsKey key
         × (stays kept (set_of (known_state t (view pass.old)).content) key ≡ false) }
     ensures stays { result ≡ None → (key : Key) → FitsKey key →
-        HasLiveKey (slots (class_of (table_id table))) (held_words s (view pass.old)).table place key →
+        HasLiveKey (slots (class_of (table_id table))) (held_unboxed s (view pass.old)).table place key →
         stays kept (set_of (known_state t (view pass.old)).content) key ≡ true }
 {
     versions_change_nothing();
@@ -115,7 +116,7 @@ fn thin_at(bank: &Bank, pass: &mut Pass, s: Object, table: Table, t: Object, kep
         (view pass.old) }
     ensures pass { IsPassOf bank.now pass.new }
     ensures stack { stack_of pass.new ≡ stack_of pass.old }
-    ensures only { OnlyPut s (view pass.old) (view pass.new) }
+    ensures only { OnlyWritten s (view pass.old) (view pass.new) }
     ensures thinned { (to : ContainerState) (last : ℕ) → place < last →
         IsThinned (shape_of bank.now) s table kept (set_of (known_state t (view pass.old)).content)
         (set_of (known_state s (view pass.old)).content) to last place (view pass.old) →
@@ -150,7 +151,7 @@ pub(crate) fn thin_all(
         (view pass.old) }
     ensures pass { IsPassOf bank.now pass.new }
     ensures stack { stack_of pass.new ≡ stack_of pass.old }
-    ensures only { OnlyPut s (view pass.old) (view pass.new) }
+    ensures only { OnlyWritten s (view pass.old) (view pass.new) }
     ensures thinned { (to : ContainerState) → IsThinned (shape_of bank.now) s table kept
         (set_of (known_state t (view pass.old)).content) (set_of (known_state s (view pass.old)).content) to fill 0
         (view pass.old) →
@@ -186,7 +187,8 @@ fn thin_table(
     ensures pass { IsPassOf bank.now pass.new }
     ensures stack { stack_of pass.new ≡ stack_of pass.old }
     ensures wrote { Wrote called.now reply.Done result (view pass.old) (view pass.new) }
-    ensures root { root_in (held_words s (view pass.new)) ≡ root_in (held_words s (view pass.old)) }
+    ensures references { SameReferences (view pass.old) (view pass.new) }
+    ensures root { root_in (held_unboxed s (view pass.new)) ≡ root_in (held_unboxed s (view pass.old)) }
 {
     used_entries_follow_a_dict();
     used_entries_follow_a_set();
@@ -209,7 +211,8 @@ pub fn thin_by(bank: &Bank, pass: &mut Pass, s: Object, t: Object, kept: bool, c
     ensures pass { IsPassOf bank.now pass.new }
     ensures stack { stack_of pass.new ≡ stack_of pass.old }
     ensures wrote { Wrote called.now reply.Done result (view pass.old) (view pass.new) }
-    ensures root { root_in (held_words s (view pass.new)) ≡ root_in (held_words s (view pass.old)) }
+    ensures references { SameReferences (view pass.old) (view pass.new) }
+    ensures root { root_in (held_unboxed s (view pass.new)) ≡ root_in (held_unboxed s (view pass.old)) }
 {
     let root = bank.read_block(pass, s, 0);
     let fill = bank.read_block(pass, s, FILL);

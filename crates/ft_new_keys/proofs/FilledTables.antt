@@ -1,19 +1,23 @@
 -- A fresh table that is filled with what a dict or a set has.
-use Rattle.std.proofs.Common.{◌≡◌, ◌≢◌, ℕ, zero, suc, ◌+◌, ◌*◌, ◌<◌, ◌≤◌, true, List, [], ◌∷◌, length, filter, Option, Some, None, refl, sym, ap, ◌∙◌, subst, inl, inr, arith, length-set, get_or-set_same, get_or-set_other}
-use Rattle.std.specs.Prelude.{All, slice_index, slice_set}
+use Rattle.std.proofs.Common.{◌≡◌, ◌≢◌, ℕ, zero, suc, ◌+◌, ◌*◌, ◌<◌, ◌≤◌, List, [], ◌∷◌, length, filter, Option, Some, None, refl, sym, ap, ◌∙◌, subst, inl, inr, arith, length-set, get_or-set_same, get_or-set_other}
+use Rattle.std.specs.Prelude.{All, map, slice_index, slice_index_or, slice_set}
+use mathlib.Core.Logic.{dite}
+use Rattle.std.proofs.Math.Decide.{dec_lt}
 use Rattle.std.proofs.lemmas.Bool.{cases_eq, cases_lt}
 use Rattle.std.proofs.lemmas.List.{get_or_past, length-map}
 use Rattle.ft_model.specs.declared.content.Content.{Content}
 use Rattle.ft_model.specs.declared.content.Content.TheVariants as content
 use Rattle.ft_model.specs.declared.script.Kind.{Kind}
-use Rattle.ft_model.specs.declared.script.Kind.TheVariants as kind
 use Rattle.ft_model.specs.Classes.{IsClass}
 use Rattle.ft_model.specs.Contents.{DictContent, SetContent}
-use Rattle.ft_model.specs.Worlds.{kind_of, length_of, serial_of}
+use Rattle.ft_model.specs.Worlds.{kind_of, length_of}
+use Rattle.ft_layout.specs.declared.slot.Stored.{Stored}
+use Rattle.ft_layout.specs.declared.slot.Stored.TheVariants.{Empty, Plain}
 use Rattle.ft_layout.specs.WordChanges.{IsBlankTable}
-use Rattle.ft_layout.specs.Containers.{class_mask, IsBlock, AreDictEntries, AreSetEntries, IsDictWords, IsSetWords, StandsAs}
-use Rattle.ft_layout.specs.Tables.{UsedEntry, is_live, dict_room, set_room, table_length, entry_word, IsTable}
-use Rattle.ft_layout.proofs.FieldLaws.{set_fits, sizes_of_class}
+use Rattle.ft_layout.specs.Words.{IsEntry, stored_kind}
+use Rattle.ft_layout.specs.Containers.{class_mask, used_pair, used_element, AreDictEntries, AreSetEntries, StandsAs}
+use Rattle.ft_layout.specs.Tables.{UsedEntry, is_live, dict_room, set_room, table_length, entry_word, hash_of, slot_with, IsTable}
+use Rattle.ft_layout.proofs.FieldLaws.{sizes_of_class}
 use Rattle.ft_keys.specs.declared.walk.Way.{Way}
 use Rattle.ft_keys.specs.declared.walk.Way.TheVariants as way
 use Rattle.ft_keys.specs.declared.words.Access.{Access}
@@ -24,12 +28,13 @@ use Rattle.ft_keys.specs.Ways.{room, IsTableOf}
 use Rattle.ft_trace.specs.declared.Shape.{Shape}
 use Rattle.ft_trace.specs.declared.View.{View}
 use Rattle.ft_trace.specs.Addresses.{class_of, slots, places, size}
-use Rattle.ft_trace.specs.Holds.{held_words, known_state, in_hand}
+use Rattle.ft_trace.specs.Holds.{held_unboxed, known_state, in_hand}
 use Rattle.ft_trace.specs.Kinds.{rows, IsKeyed}
 use Rattle.ft_trace.specs.Traces.{IsReachable}
 use Rattle.ft_trace.specs.Pictures.{entry_offset, entry_field}
 use Rattle.ft_trace.specs.ContainerStates.{kind_in}
 use Rattle.ft_trace.proofs.Known.{class_known}
+use Rattle.ft_trace.proofs.ValuePlaces.{plain_kind}
 use Rattle.ft_bank.specs.declared.table.Table.{Table}
 use Rattle.ft_bank.specs.Passes.{view}
 use Rattle.ft_bank.specs.PassSections.{stack_of}
@@ -165,6 +170,7 @@ bare_filled holds texts block old class fill keys (content.Dict pairs) words is_
         entries = subst (λ (l : List UsedEntry). AreDictEntries l pairs) is.table is.entries;
       };
       versions = λ place low. blank.zeros (entry_offset (slots class) place 0);
+      plain = λ place low four. let z = blank.zeros (entry_offset (slots class) place 4) in omega (arith, z, four);
     }
 bare_filled holds texts block old class fill keys (content.Set elements) words is_class keyed is blank =
     let none : length elements.elements ≡ 0 = sym (length-map elements.elements _) ∙ (ap length (sym is.entries.live) ∙ ap (λ (l : List UsedEntry). length (filter is_live l)) is.table) in
@@ -177,9 +183,42 @@ bare_filled holds texts block old class fill keys (content.Set elements) words i
         entries = subst (λ (l : List UsedEntry). AreSetEntries l elements) is.table is.entries;
       };
       versions = λ place low. blank.zeros (entry_offset (slots class) place 0);
+      plain = λ place low four. let z = blank.zeros (entry_offset (slots class) place 4) in omega (arith, z, four);
     }
 bare_filled holds texts block old class fill keys (content.List values) words is_class keyed is blank = absurd keyed
 bare_filled holds texts block old class fill keys (content.Deque deque) words is_class keyed is blank = absurd keyed
+
+-- what these entries store stands in place
+abbrev ArePlainEntries : List UsedEntry → Type 0
+ArePlainEntries used = All (λ (e : UsedEntry). (stored : Stored) × (e.stored ≡ Some stored) × (stored_kind stored ≢ 4)) used
+
+mapped_plain : {Y : Type 0} (of : Y → UsedEntry) → ((y : Y) → (stored : Stored) × ((of y).stored ≡ Some stored) × (stored_kind stored ≢ 4)) → (ys : List Y) → ArePlainEntries (map of ys)
+mapped_plain of plain [] k d low = absurd (omega (arith, low))
+mapped_plain of plain (y ∷ ys) zero d low = plain y
+mapped_plain of plain (y ∷ ys) (suc k) d low = mapped_plain of plain ys k d (omega (arith, low))
+
+-- no value of a table with such entries names a box
+module _ (walk : ℕ → List ℕ) (room : ℕ) (texts : List ℕ) (class : ℕ) (l : List ℕ) where
+  live_plain : (used : List UsedEntry) → IsTable walk room texts (class_mask class) used (0 ∷ 0 ∷ l) → ArePlainEntries used → (place : ℕ) (any : UsedEntry) → place < length used → entry_field (slots class) l place 4 ≢ 4
+  live_plain used table plain place any low four =
+      let p = plain place any low in
+      let entry = slice_index_or used place any in
+      let is : IsEntry (entry_word (class_mask class) (0 ∷ 0 ∷ l) place) (slot_with (hash_of texts entry.key) entry.key entry.serial (Some p.0)) =
+      subst (λ (s : Option Stored). IsEntry (entry_word (class_mask class) (0 ∷ 0 ∷ l) place) (slot_with (hash_of texts entry.key) entry.key entry.serial s)) p.1 (table.entries place any low) in
+      p.2 (sym is.value.kind_is ∙ (word_here class l place 4 ∙ four))
+
+  never_plain : (used : List UsedEntry) → IsTable walk room texts (class_mask class) used (0 ∷ 0 ∷ l) → (place : ℕ) → length used ≤ place → place < room → entry_field (slots class) l place 4 ≢ 4
+  never_plain used table place past low four =
+      let none = (table.unused place past low).value.kind_is in
+      let z : 0 ≡ 4 = sym none ∙ (word_here class l place 4 ∙ four) in
+      omega (arith, z)
+
+  pub table_plain : (used : List UsedEntry) → IsTable walk room texts (class_mask class) used (0 ∷ 0 ∷ l) → ArePlainEntries used → (place : ℕ) → place < room → entry_field (slots class) l place 4 ≢ 4
+  table_plain [] table plain place low = never_plain [] table place (omega arith) low
+  table_plain (e ∷ used) table plain place low =
+      dite (dec_lt place (length (e ∷ used)))
+      (λ less. live_plain (e ∷ used) table plain place e less)
+      (λ past. never_plain (e ∷ used) table place (omega (arith, past)) low)
 
 -- and one with a table by those of its entries that are there
 module _ (holds : BlankHolds) (pairs_live : LivePairs) (elements_live : LiveElements) (keeps : KeepsVersions) (texts block old_table : List ℕ) (old_class class fill limit : ℕ) (calls : List Access) (words made : List ℕ) (is_class : IsClass class) (is_old : IsClass old_class) (blank : HasZeroWords class words)
@@ -201,30 +240,38 @@ module _ (holds : BlankHolds) (pairs_live : LivePairs) (elements_live : LiveElem
       let r = room_of_way way.Dict class is_class in
       let many = live.1 in
       let done = rebuilds texts is.used (holds _ (dict_room mask) texts mask (0 ∷ 0 ∷ words) (blank_table class is_class words blank)) is.table is.filled (omega (arith, r, many, few)) in
+      let table = subst (λ (l : List ℕ). IsTableOf way.Dict texts mask (filter is_live is.used) l) (sym is_made) done.0 in
       record {
         says = λ head_block head. record {
           head = head;
           used = filter is_live is.used;
-          table = subst (λ (l : List ℕ). IsTableOf way.Dict texts mask (filter is_live is.used) l) (sym is_made) done.0;
+          table = table;
           filled = live.1;
           entries = live.0;
         };
         versions = λ place low. zero_versions place;
+        plain = λ place low.
+            table_plain _ (dict_room mask) texts class made (map used_pair pairs.pairs) (subst (λ (u : List UsedEntry). IsTableOf way.Dict texts mask u (0 ∷ 0 ∷ made)) is.entries.live table)
+            (mapped_plain used_pair (λ p. (Plain p.value, refl, plain_kind p.value)) pairs.pairs) place (omega (arith, low, r));
       }
   copied (content.Set elements) way.Set result same is few rebuilds =
       let live = elements_live is.used elements is.entries in
       let r = room_of_way way.Set class is_class in
       let many = live.1 in
       let done = rebuilds texts is.used (holds _ (set_room mask) texts mask (0 ∷ 0 ∷ words) (blank_table class is_class words blank)) is.table is.filled (omega (arith, r, many, few)) in
+      let table = subst (λ (l : List ℕ). IsTableOf way.Set texts mask (filter is_live is.used) l) (sym is_made) done.0 in
       record {
         says = λ head_block head. record {
           head = head;
           used = filter is_live is.used;
-          table = subst (λ (l : List ℕ). IsTableOf way.Set texts mask (filter is_live is.used) l) (sym is_made) done.0;
+          table = table;
           filled = live.1;
           entries = live.0;
         };
         versions = λ place low. zero_versions place;
+        plain = λ place low.
+            table_plain _ (set_room mask) texts class made (map used_element elements.elements) (subst (λ (u : List UsedEntry). IsTableOf way.Set texts mask u (0 ∷ 0 ∷ made)) is.entries.live table)
+            (mapped_plain used_element (λ e. (Empty, refl, λ z. omega (arith, z))) elements.elements) place (omega (arith, low, r));
       }
   copied (content.Dict pairs) way.Set result same is few rebuilds = absurd (cc)
   copied (content.Set elements) way.Dict result same is few rebuilds = absurd (cc)
@@ -234,11 +281,11 @@ module _ (holds : BlankHolds) (pairs_live : LivePairs) (elements_live : LiveElem
   copied (content.Deque deque) way.Set result same is few rebuilds = absurd (cc)
 
 -- so calls that rebuild the old one fill the fresh one
-fill_room : (texts b l : List ℕ) (class fill : ℕ) (d : Content) → IsKeyed (kind_of d) → StandsAs texts b (0 ∷ 0 ∷ l) (use_with class fill) d → fill ≤ dict_room (class_mask class)
-fill_room texts b l class fill (content.Dict pairs) keyed is = let f = is.table.fill in let e = is.filled in omega (arith, f, e)
-fill_room texts b l class fill (content.Set elements) keyed is = let f = is.table.fill in let e = is.filled in let s = set_fits (class_mask class) in omega (arith, f, e, s)
-fill_room texts b l class fill (content.List values) keyed is = absurd keyed
-fill_room texts b l class fill (content.Deque deque) keyed is = absurd keyed
+fill_room : (texts b l : List ℕ) (class fill : ℕ) (d : Content) → IsKeyed (kind_of d) → IsClass class → StandsAs texts b (0 ∷ 0 ∷ l) (use_with class fill) d → fill ≤ rows (kind_of d) class
+fill_room texts b l class fill (content.Dict pairs) keyed is_class is = let f = is.table.fill in let e = is.filled in let r = room_of_way way.Dict class is_class in omega (arith, f, e, r)
+fill_room texts b l class fill (content.Set elements) keyed is_class is = let f = is.table.fill in let e = is.filled in let r = room_of_way way.Set class is_class in omega (arith, f, e, r)
+fill_room texts b l class fill (content.List values) keyed is_class is = absurd keyed
+fill_room texts b l class fill (content.Deque deque) keyed is_class is = absurd keyed
 
 module _ (k : Shape) (o : ℕ) (old : Table) (v : View) (keyed : KnowsKeyed k o (Some old) v) (shape : v.shape ≡ k) (possible : ∥ IsReachable v ∥₁) (by : Way) (kind_eq : kind_in k.starts o ≡ kind_by by) where
   abbrev d : Content
@@ -250,21 +297,24 @@ module _ (k : Shape) (o : ℕ) (old : Table) (v : View) (keyed : KnowsKeyed k o 
   content_kind : kind_of d ≡ kind_in k.starts o
   content_kind = kind_is k v o shape possible keyed.locked
 
-  old_says : StandsAs k.texts (held_words o v).block (0 ∷ 0 ∷ (held_words o v).table) (use_with old.class fill) d
+  old_says : StandsAs k.texts (held_unboxed o v).block (0 ∷ 0 ∷ (held_unboxed o v).table) (use_with old.class fill) d
   old_says =
-      let class = class_known k.texts (held_words o v) (known_state o v) (table_id old) keyed.stands keyed.root ∙ ap (λ (n : ℕ). Some n) (class_is old (keyed.table_in old refl).2) in
-      subst (λ (z : Option ℕ × List Key). StandsAs k.texts (held_words o v).block (0 ∷ 0 ∷ (held_words o v).table) (record { class = z.0; fill = fill; keys = z.1 }) d) (λ i. (class i, no_keys v o possible keyed.locked i)) keyed.stands
+      let class = class_known k.texts (held_unboxed o v) (known_state o v) (table_id old) keyed.stands keyed.root ∙ ap (λ (n : ℕ). Some n) (class_is old (keyed.table_in old refl).2) in
+      subst (λ (z : Option ℕ × List Key). StandsAs k.texts (held_unboxed o v).block (0 ∷ 0 ∷ (held_unboxed o v).table) (record { class = z.0; fill = fill; keys = z.1 }) d) (λ i. (class i, no_keys v o possible keyed.locked i)) keyed.stands
 
-  pub old_fits : (mask : ℕ) → mask ≡ class_mask old.class → fill ≤ dict_room mask
-  old_fits mask is = subst (λ (m : ℕ). fill ≤ dict_room m) (sym is) (fill_room k.texts (held_words o v).block (held_words o v).table old.class fill d (subst IsKeyed (sym content_kind) keyed.keyed) old_says)
+  pub old_fits : fill ≤ rows (kind_in k.starts o) (class_of (table_id old))
+  old_fits =
+      let table_in = keyed.table_in old refl in
+      subst (λ (z : Kind × ℕ). fill ≤ rows z.0 z.1) (λ i. (content_kind i, sym (class_is old table_in.2) i))
+      (fill_room k.texts (held_unboxed o v).block (held_unboxed o v).table old.class fill d (subst IsKeyed (sym content_kind) keyed.keyed) table_in.0 old_says)
 
-  pub filled_by : BlankHolds → LivePairs → LiveElements → KeepsVersions → (s t : FreshWords) (class most result : ℕ) → IsClass class → s.mask ≡ class_mask class → s.old_mask ≡ class_mask old.class → HasZeroWords class (in_hand (table_id s.table) (view s.pass.now)) → old_words s ≡ 0 ∷ 0 ∷ (held_words o v).table → length_of d ≤ rows (kind_by by) class
+  pub filled_by : BlankHolds → LivePairs → LiveElements → KeepsVersions → (s t : FreshWords) (class most result : ℕ) → IsClass class → s.mask ≡ class_mask class → s.old_mask ≡ class_mask old.class → HasZeroWords class (in_hand (table_id s.table) (view s.pass.now)) → old_words s ≡ 0 ∷ 0 ∷ (held_unboxed o v).table → length_of d ≤ rows (kind_by by) class
       → (n : ℕ) → n ≡ fill → Moves FreshMade s.mask s t most result (Rebuilds by s.mask n result) → IsFilledWith k.texts class d (in_hand (table_id s.table) (view t.pass.now))
   filled_by holds pairs_live elements_live keeps s t class most result is_class last old_last blank words few n same_fill moves =
       let r = ran_fresh s moves.calls t moves.runs in
       let made : 0 ∷ 0 ∷ in_hand (table_id s.table) (view t.pass.now) ≡ after s.mask moves.calls (fresh_words s) = ap (λ (z : Table). 0 ∷ 0 ∷ in_hand (table_id z) (view t.pass.now)) (sym r.table) ∙ r.words in
       let done = moves.done (fresh_words s) (old_words s) s.old_mask r.fits r.fits_old in
-      copied holds pairs_live elements_live keeps k.texts (held_words o v).block (held_words o v).table old.class class fill result moves.calls (in_hand (table_id s.table) (view s.pass.now)) (in_hand (table_id s.table) (view t.pass.now)) is_class (keyed.table_in old refl).0 blank
+      copied holds pairs_live elements_live keeps k.texts (held_unboxed o v).block (held_unboxed o v).table old.class class fill result moves.calls (in_hand (table_id s.table) (view s.pass.now)) (in_hand (table_id s.table) (view t.pass.now)) is_class (keyed.table_in old refl).0 blank
       (subst (λ (m : ℕ). PutBelow m result moves.calls) last moves.below)
       (made ∙ ap (λ (m : ℕ). after m moves.calls (fresh_words s)) last)
       d by result (content_kind ∙ kind_eq) old_says few

@@ -1,8 +1,7 @@
 -- That a call may be committed which has put a new key's entry, and what the pass knew before it.
-use Rattle.std.proofs.Common.{◌≡◌, ◌≢◌, ℕ, suc, ◌+◌, ◌%◌, ◌<◌, Bool, true, false, true≢false, List, [], ◌∷◌, Option, Some, refl, sym, ap, ◌∙◌, subst, arith, ne_eqb}
+use Rattle.std.proofs.Common.{◌≡◌, ℕ, suc, ◌+◌, ◌<◌, true, false, true≢false, List, [], Some, sym, ap, ◌∙◌, subst, arith, ne_eqb}
 use Rattle.std.specs.Prelude.{◌==◌, nat_lt}
 use Rattle.ft_model.specs.declared.call.Call.{Call}
-use Rattle.ft_model.specs.declared.content.Content.{Content}
 use Rattle.ft_model.specs.declared.data.Key.{Key}
 use Rattle.ft_model.specs.declared.reply.Reply.{Reply}
 use Rattle.ft_model.specs.declared.script.Kind.{Kind}
@@ -12,17 +11,17 @@ use Rattle.ft_layout.specs.declared.slot.Stored.{Stored}
 use Rattle.ft_trace.specs.declared.Act.TheVariants.{StartWrite, PutRoot}
 use Rattle.ft_trace.specs.declared.Shape.{Shape}
 use Rattle.ft_trace.specs.declared.View.{View}
-use Rattle.ft_trace.specs.Acts.{has_lock, is_writing, has_committed, has_emptied, owes, view_after}
+use Rattle.ft_trace.specs.Acts.{has_lock, is_writing, has_emptied, owes, view_after}
 use Rattle.ft_trace.specs.Addresses.{container_count, class_of, slots}
-use Rattle.ft_trace.specs.Holds.{held_words, known_state}
+use Rattle.ft_trace.specs.Holds.{held_unboxed, known_state}
 use Rattle.ft_trace.specs.Kinds.{rows, version_at, CarefulAs, ClearAs}
 use Rattle.ft_trace.specs.OddVersions.{Shut}
-use Rattle.ft_trace.specs.Pictures.{ContainerWords, root_in, entry_offset, entry_field, Represents}
+use Rattle.ft_trace.specs.Pictures.{root_in, entry_offset, entry_field, Represents}
 use Rattle.ft_trace.specs.ContainerStates.{ContainerState, state_at, kind_in, changes, reply_in, kinds_in}
 use Rattle.ft_trace.proofs.Cases.{hit}
 use Rattle.ft_bank.specs.declared.table.Table.{Table}
 use Rattle.ft_bank.specs.TableNames.{table_id}
-use Rattle.ft_bank.specs.Whole.{OnlyPut}
+use Rattle.ft_bank.specs.Whole.{OnlyWritten}
 use Rattle.ft_bank.specs.WriteSteps.{MayCommit, MayHave}
 use Rattle.ft_bank.proofs.KnownAfterWrites.{work_knows}
 use Rattle.ft_search.specs.OneEntryWrites.{Leaves, MayFinish, raised_at}
@@ -41,7 +40,7 @@ pub record Since (o : ℕ) (v u : View) : Type 0 where
   pub left : u.left ≡ v.left
   pub owes : owes u.log ≡ owes v.log
 
-pub since_start : (o : ℕ) (v s u : View) (f : ℕ) → s ≡ view_after (StartWrite o f) v → OnlyPut o s u → Since o v u
+pub since_start : (o : ℕ) (v s u : View) (f : ℕ) → s ≡ view_after (StartWrite o f) v → OnlyWritten o s u → Since o v u
 since_start o v s u f begun puts = record {
   shape = puts.work.pass.shape ∙ ap (λ (z : View). z.shape) begun;
   knows = λ p. work_knows s u p puts.work ∙ ap (λ (z : View). known_state p z) begun;
@@ -52,7 +51,7 @@ since_start o v s u f begun puts = record {
   owes = puts.work.owes ∙ ap (λ (z : View). owes z.log) begun;
 }
 
-pub since_root : (o t old : ℕ) (v r u : View) (f : ℕ) → r ≡ view_after (PutRoot o (suc t) old) (view_after (StartWrite o f) v) → OnlyPut o r u → Since o v u
+pub since_root : (o t old : ℕ) (v r u : View) (f : ℕ) → r ≡ view_after (PutRoot o (suc t) old) (view_after (StartWrite o f) v) → OnlyWritten o r u → Since o v u
 since_root o t old v r u f is puts = record {
   shape = puts.work.pass.shape ∙ ap (λ (z : View). z.shape) is;
   knows = λ p. work_knows r u p puts.work ∙ ap (λ (z : View). known_state p z) is;
@@ -76,7 +75,7 @@ module _ (o : ℕ) (v u : View) (since : Since o v u) where
 
   module _ (k : Shape) (table : Table) (place : ℕ) (called : Call) (said : Reply) (left : ContainerState) (leaves : Leaves o called said left v) (shape : v.shape ≡ k) (low : o < container_count k) (some : 0 < v.left)
       (takes : (found : StoredWorld) (class : ℕ) → MayHave v found → owes v.log ≡ suc class → takes_in found called ≡ Some class)
-      (kind_eq : kind_of (known_state o v).content ≡ kind_in k.starts o) (was : TableUse) (change : Changing k.texts (table_id table) (held_words o u) (record { content = (known_state o v).content; table = was }) place [] left) (root : root_in (held_words o u) ≡ suc (table_id table)) where
+      (kind_eq : kind_of (known_state o v).content ≡ kind_in k.starts o) (was : TableUse) (change : Changing k.texts (table_id table) (held_unboxed o u) (record { content = (known_state o v).content; table = was }) place [] left) (root : root_in (held_unboxed o u) ≡ suc (table_id table)) where
     abbrev c : ℕ
     c = class_of (table_id table)
 
@@ -95,11 +94,11 @@ module _ (o : ℕ) (v u : View) (since : Since o v u) where
     left_since : (found : StoredWorld) → MayHave u found → state_at (after_stored found called) o ≡ left
     left_since found has = leaves.left_is found (has_since found has)
 
-    clears : (found : StoredWorld) (t : ℕ) → MayHave u found → root_in (held_words o u) ≡ suc t → ClearAs (kind_in u.shape.starts o) u.shape.texts (class_of t) (held_words o u).table (known_state o u).content (state_at (after_stored found called) o).content
+    clears : (found : StoredWorld) (t : ℕ) → MayHave u found → root_in (held_unboxed o u) ≡ suc t → ClearAs (kind_in u.shape.starts o) u.shape.texts (class_of t) (held_unboxed o u).table (known_state o u).content (state_at (after_stored found called) o).content
     clears found t has names =
         let same : table_id table ≡ t = let e : suc (table_id table) ≡ suc t = sym root ∙ names in omega (arith, e) in
-        subst (λ (n : ℕ). ClearAs (kind_in u.shape.starts o) u.shape.texts (class_of n) (held_words o u).table (known_state o u).content (state_at (after_stored found called) o).content) same
-        (subst (λ (z : Kind × List ℕ × ContainerState × ContainerState). ClearAs z.0 z.1 c (held_words o u).table z.2.content z.3.content) (λ d. (kind_u d, texts_u d, sym (since.knows o) d, sym (left_since found has) d)) change.clear)
+        subst (λ (n : ℕ). ClearAs (kind_in u.shape.starts o) u.shape.texts (class_of n) (held_unboxed o u).table (known_state o u).content (state_at (after_stored found called) o).content) same
+        (subst (λ (z : Kind × List ℕ × ContainerState × ContainerState). ClearAs z.0 z.1 c (held_unboxed o u).table z.2.content z.3.content) (λ d. (kind_u d, texts_u d, sym (since.knows o) d, sym (left_since found has) d)) change.clear)
 
     commits : MayCommit u called said
     commits =
@@ -113,7 +112,7 @@ module _ (o : ℕ) (v u : View) (since : Since o v u) where
           reply_is = λ found has. plain_replied called said (reply_in found called) leaves.write (leaves.replied found (has_since found has));
           declared = λ found has. leaves.declared found (has_since found has);
           fits = λ found has. leaves.fits found (has_since found has);
-          clear = subst (λ (n : ℕ). (found : StoredWorld) (t : ℕ) → MayHave u found → root_in (held_words n u) ≡ suc t → ClearAs (kind_in u.shape.starts n) u.shape.texts (class_of t) (held_words n u).table (known_state n u).content (state_at (after_stored found called) n).content) name clears;
+          clear = subst (λ (n : ℕ). (found : StoredWorld) (t : ℕ) → MayHave u found → root_in (held_unboxed n u) ≡ suc t → ClearAs (kind_in u.shape.starts n) u.shape.texts (class_of t) (held_unboxed n u).table (known_state n u).content (state_at (after_stored found called) n).content) name clears;
           takes = λ found class has owed. takes found class (has_since found has) (sym since.owes ∙ owed);
           empties = λ e. absurd (true≢false (sym e ∙ subst (λ (n : ℕ). has_emptied n u.log ≡ false) name since.emptied));
           locks = λ p e. since.locks p ∙ leaves.locks p e;
@@ -126,9 +125,9 @@ module _ (o : ℕ) (v u : View) (since : Since o v u) where
       left = left;
       left_is = left_since;
       odd = change.odd;
-      close = subst (λ (z : Kind). CarefulAs z c (held_words o u).table left.content at (entry_field (slots c) (held_words o u).table place 0 + 1)) kind_u change.close;
-      stands = subst (λ (z : List ℕ). Represents z (raised_at (table_id table) place (held_words o u)) left) texts_u change.stands;
-      shut = subst (λ (z : Kind). Shut (version_at z c) (rows z c) (raised_at (table_id table) place (held_words o u)).table) kind_u change.shut;
+      close = subst (λ (z : Kind). CarefulAs z c (held_unboxed o u).table left.content at (entry_field (slots c) (held_unboxed o u).table place 0 + 1)) kind_u change.close;
+      stands = subst (λ (z : List ℕ). Represents z (raised_at (table_id table) place (held_unboxed o u)) left) texts_u change.stands;
+      shut = subst (λ (z : Kind). Shut (version_at z c) (rows z c) (raised_at (table_id table) place (held_unboxed o u)).table) kind_u change.shut;
     }
 
 -- ---- what a call leaves that adds a key

@@ -1,28 +1,30 @@
 -- A whole write in which a dict or a set gets another table.
-use Rattle.std.proofs.Common.{◌≡◌, ◌≢◌, ℕ, suc, ◌<◌, true, false, List, Option, Some, refl, sym, ap, ◌∙◌, subst}
+use Rattle.std.proofs.Common.{◌≡◌, ◌≢◌, ℕ, suc, ◌<◌, false, Option, sym, ap, ◌∙◌, subst}
 use Rattle.ft_model.specs.declared.call.Call.{Call}
 use Rattle.ft_model.specs.declared.reply.Reply.{Reply}
 use Rattle.ft_model.specs.TableUses.{StoredWorld}
 use Rattle.ft_trace.specs.declared.Act.TheVariants.{StartWrite, PutRoot}
 use Rattle.ft_trace.specs.declared.Shape.{Shape}
 use Rattle.ft_trace.specs.declared.View.{View}
-use Rattle.ft_trace.specs.Acts.{has_lock, is_writing, owes, stage, used, view_after}
+use Rattle.ft_trace.specs.Acts.{has_lock, is_writing, view_after}
 use Rattle.ft_trace.specs.Addresses.{container_count}
-use Rattle.ft_trace.specs.Holds.{held_words, known_state}
+use Rattle.ft_trace.specs.Holds.{held_words, held_unboxed, known_state}
 use Rattle.ft_trace.specs.Pictures.{ContainerWords, root_in, Represents}
 use Rattle.ft_trace.specs.ContainerStates.{ContainerState, changes, kinds_in}
 use Rattle.ft_bank.specs.declared.table.Table.{Table}
 use Rattle.ft_bank.specs.TableNames.{table_id}
-use Rattle.ft_bank.specs.Whole.{OnlyPut, EndsWrite, Wrote}
+use Rattle.ft_bank.specs.SameBoxes.{MovesReferences}
+use Rattle.ft_bank.specs.Whole.{OnlyWritten, EndsWrite, Wrote}
 use Rattle.ft_bank.specs.WriteSteps.{KeepsUnwritten, MayHave}
-use Rattle.ft_bank.proofs.KnownAfterWrites.{work_knows}
+use Rattle.ft_bank.proofs.KnownAfterWrites.{work_knows, written_then}
 use Rattle.ft_table_calls.specs.Adding.{OnlyFilled}
 use Rattle.ft_table_calls.proofs.Rooting.{filled_wrote, rooted_write}
 use Rattle.ft_search.specs.OneEntryWrites.{Leaves}
-use Rattle.ft_new_keys.specs.KeyGrowth.{KnowsKeyed, MayGrowKeyed}
+use Rattle.ft_search.proofs.Puts.{done_then}
+use Rattle.ft_new_keys.specs.KeyGrowth.{BeginsIn, KnowsKeyed, MayGrowKeyed}
 
 -- what a pass knows of a container stays, where it knows the same words and the same content
-pub knows_on : (k : Shape) (o : ℕ) (old : Option Table) (v w : View) → held_words o w ≡ held_words o v → known_state o w ≡ known_state o v → has_lock o w.log ≡ has_lock o v.log → is_writing o w.log ≡ is_writing o v.log → KnowsKeyed k o old v → KnowsKeyed k o old w
+pub knows_on : (k : Shape) (o : ℕ) (old : Option Table) (v w : View) → held_unboxed o w ≡ held_unboxed o v → known_state o w ≡ known_state o v → has_lock o w.log ≡ has_lock o v.log → is_writing o w.log ≡ is_writing o v.log → KnowsKeyed k o old v → KnowsKeyed k o old w
 knows_on k o old v w same_words same_content lock writes keyed = record {
   container = keyed.container;
   keyed = keyed.keyed;
@@ -36,8 +38,11 @@ knows_on k o old v w same_words same_content lock writes keyed = record {
 -- ---- after words were put into a fresh table
 
 module _ (k : Shape) (o : ℕ) (old : Option Table) (v x : View) (shape : v.shape ≡ k) (only : OnlyFilled v x) (keyed : KnowsKeyed k o old v) where
-  pub same_filled : (held_words o x ≡ held_words o v) × (known_state o x ≡ known_state o v)
-  same_filled = only.keeps o (subst (λ (z : Shape). o < container_count z) (sym shape) keyed.container) keyed.locked keyed.even
+  pub same_filled : (held_unboxed o x ≡ held_unboxed o v) × (known_state o x ≡ known_state o v)
+  same_filled = let e = only.keeps o (subst (λ (z : Shape). o < container_count z) (sym shape) keyed.container) keyed.locked keyed.even in (e.2, e.1)
+
+  pub words_filled : held_words o x ≡ held_words o v
+  words_filled = (only.keeps o (subst (λ (z : Shape). o < container_count z) (sym shape) keyed.container) keyed.locked keyed.even).0
 
   pub knows_filled : KnowsKeyed k o old x
   knows_filled = knows_on k o old v x same_filled.0 same_filled.1 (only.work.pass.locks o) (only.work.pass.writes o) keyed
@@ -50,6 +55,7 @@ grow_filled k o old table v x shape only may = record {
   owed = only.work.owes ∙ may.owed;
   fresh = only.work.hands (table_id table) ∙ may.fresh;
   table_in = may.table_in;
+  boxes = done_then k v x shape only.work.pass.shape only.references only.made may.boxes;
   left = subst (λ (n : ℕ). 0 < n) (sym only.work.left) may.left;
 }
 
@@ -76,10 +82,14 @@ leaves_filled o called said left v x only leaves = record {
 }
 
 -- the whole write, seen from before the table was filled
-pub grown_wrote : (o t : ℕ) (called : Call) (said : Reply) (number f : ℕ) (before v r u w : View) → changes called ≡ o → OnlyFilled before v → root_in (held_words o v) ≡ root_in (held_words o before) → root_in (held_words o v) ≢ suc t → is_writing o v.log ≡ false → r ≡ view_after (PutRoot o (suc t) (root_in (held_words o v))) (view_after (StartWrite o f) v) → KeepsUnwritten (view_after (StartWrite o f) v) r → OnlyPut o r u → root_in (held_words o u) ≡ suc t → EndsWrite called said number u w → Wrote called said number before w
-grown_wrote o t called said number f before v r u w at only same new even is keeps puts root ends =
+pub grown_wrote : (o : ℕ) (table : Table) (called : Call) (said : Reply) (number : ℕ) (before v y u w : View) → changes called ≡ o → OnlyFilled before v → held_words o v ≡ held_words o before → root_in (held_words o v) ≢ suc (table_id table) → is_writing o v.log ≡ false → BeginsIn o table v y → OnlyWritten o y u → root_in (held_words o u) ≡ suc (table_id table) → EndsWrite called said number u w → Wrote called said number before w
+grown_wrote o table called said number before v y u w at only same new even begins puts root ends =
+    let t = table_id table in
+    let f = begins.found in
+    let r = begins.rooted in
+    let all : OnlyWritten o r u = written_then o r y u begins.only puts in
     filled_wrote called said number before v w only
-    (subst (λ (n : ℕ). root_in (held_words n v) ≡ root_in (held_words n before)) (sym at) same)
-    (subst (λ (n : ℕ). r ≡ view_after (PutRoot n (suc t) (root_in (held_words n v))) (view_after (StartWrite n f) v) → is_writing n v.log ≡ false → root_in (held_words n v) ≢ suc t → KeepsUnwritten (view_after (StartWrite n f) v) r → OnlyPut n r u → root_in (held_words n u) ≡ suc t → EndsWrite called said number u w → Wrote called said number v w) at
+    (subst (λ (n : ℕ). held_words n v ≡ held_words n before) (sym at) same)
+    (subst (λ (n : ℕ). r ≡ view_after (PutRoot n (suc t) (root_in (held_words n v))) (view_after (StartWrite n f) v) → is_writing n v.log ≡ false → root_in (held_words n v) ≢ suc t → KeepsUnwritten (view_after (StartWrite n f) v) r → MovesReferences n (view_after (StartWrite n f) v) r → OnlyWritten n r u → root_in (held_words n u) ≡ suc t → EndsWrite called said number u w → Wrote called said number v w) at
     (rooted_write called said number f (suc t) v r u w)
-    is even new keeps puts root ends)
+    begins.is even new begins.keeps begins.moves all root ends)

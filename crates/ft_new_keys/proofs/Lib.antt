@@ -1,3 +1,4 @@
+pub mod PlainCalls
 pub mod Laid
 pub mod Stages
 pub mod Placed
@@ -6,8 +7,10 @@ pub mod Keyed
 pub mod FilledTables
 pub mod Rooted
 pub mod NewEntryPuts
+pub mod Begun
 pub mod Wanted
 pub mod Grown
 pub mod Taken
 pub mod Present
 pub mod Cursors
+pub mod OldValues

@@ -19,8 +19,8 @@ use Rattle.ft_hash.specs.Probes.{IsMask, dict_slots, set_slots}
 use Rattle.ft_hash.proofs.Walks.{dict_slots-within, set_slots-within}
 use Rattle.ft_layout.specs.declared.slot.Pair.{Pair}
 use Rattle.ft_layout.specs.declared.slot.Stored.{Stored}
-use Rattle.ft_layout.specs.declared.slot.Stored.TheVariants.{Empty, Plain, Boxed}
-use Rattle.ft_layout.specs.Words.{FitsKey, FitsPair, FitsStored, entry_words, key_kind, key_payload}
+use Rattle.ft_layout.specs.declared.slot.Stored.TheVariants.{Empty, Plain}
+use Rattle.ft_layout.specs.Words.{FitsKey, FitsPair, FitsStored, entry_words, key_kind, key_payload, stored_kind}
 use Rattle.ft_layout.specs.Tables.{UsedEntry, is_live, hash_of, index_word, dict_room, set_room, IsDictTable, IsSetTable}
 use Rattle.ft_layout.specs.Tables as layout
 use Rattle.ft_layout.specs.Containers.{class_mask, used_pair, used_element, IsRoot, IsBlock, AreDictEntries, AreSetEntries, IsDictWords, IsSetWords, StandsAs}
@@ -35,15 +35,17 @@ use Rattle.ft_trace.specs.Addresses.{class_of, slots, places}
 use Rattle.ft_trace.specs.Carefuls.{HasLiveKey, said_of, OpensChanged}
 use Rattle.ft_trace.specs.Kinds.{under, rows, version_at, CarefulAs, ClearAs, IsKeyed}
 use Rattle.ft_trace.specs.OddVersions.{Shut}
-use Rattle.ft_trace.specs.Pictures.{ContainerWords, root_in, index_field, entry_offset, entry_field, Represents}
-use Rattle.ft_trace.specs.ContainerStates.{ContainerState}
+use Rattle.ft_trace.specs.Pictures.{ContainerWords, index_field, entry_offset, entry_field}
 use Rattle.ft_trace.proofs.DictWrites as dict
 use Rattle.ft_trace.proofs.DictWrites.{EntryVersionsChangeNothing, FirstEntriesArePairs}
 use Rattle.ft_trace.proofs.SetKnown as set
 use Rattle.ft_trace.proofs.SetKnown.{FirstEntriesAreElements}
-use Rattle.ft_trace.proofs.KeyPuts.{new_same, new_late, new_shut, stage_odd, new_opens}
+use Rattle.ft_trace.proofs.KeyPuts.{new_same, new_late, new_shut, new_opens}
 use Rattle.ft_trace.proofs.Known as known
 use Rattle.ft_trace.proofs.Tellings.{word_is}
+use Rattle.ft_trace.proofs.ValuePlaces.{plain_kind}
+use Rattle.ft_trace.specs.declared.View.{View}
+use Rattle.ft_bank.specs.SameBoxes.{SameReferences}
 use Rattle.ft_new_keys.specs.declared.counts.Counts.{Counts}
 use Rattle.ft_search.specs.Held.{IsHeldAt}
 use Rattle.ft_new_keys.specs.Placing.{StoresAs, with_key, counted}
@@ -53,7 +55,7 @@ use Rattle.ft_search.proofs.Changing.{Changing}
 use Rattle.ft_search.proofs.KnownTableWords.{after_header}
 use Rattle.ft_new_keys.proofs.Laid.{laid_after}
 use Rattle.ft_search.proofs.WordPlaces.{mask_is, slots_of_class}
-use Rattle.ft_new_keys.proofs.Stages.{as_careful, body, body_puts, body_stage, opened}
+use Rattle.ft_new_keys.proofs.Stages.{as_careful, body, body_puts, body_stage}
 use Rattle.ft_keys.specs.declared.words.Access.{Access}
 use Rattle.ft_keys.specs.declared.words.Access.TheVariants.{PutEntry}
 use Rattle.ft_trace.proofs.Opened.{dict_lacks, set_lacks}
@@ -77,6 +79,15 @@ way_of (content.Dict pairs) = way.Dict
 way_of (content.Set elements) = way.Set
 way_of (content.List values) = way.Dict
 way_of (content.Deque deque) = way.Dict
+
+-- what a dict or a set stores with a key names no box
+pub stores_plain : (kind : Kind) (stored : Stored) → StoresAs kind stored → stored_kind stored ≢ 4
+stores_plain kind.Dict (Plain value) stores = plain_kind value
+stores_plain kind.Set Empty stores = λ e. omega (arith, e)
+stores_plain kind stored stores = absurd stores
+
+pub refs_then : (u v w : View) → SameReferences u v → SameReferences v w → SameReferences u w
+refs_then u v w a b x = b x ∙ a x
 
 -- a table of this class, of which this many entries are used
 abbrev pub use_with : ℕ → ℕ → TableUse
@@ -166,6 +177,21 @@ next_unused first_pair first_element texts b l class fill (content.Set elements)
     sym (word_is (λ hash. set_slots hash (class_mask class) (class_mask class + 14)) (set_room (class_mask class)) texts class is_class is.used l is.table fill 2) ∙ u.kind
 next_unused first_pair first_element texts b l class fill (content.List values) keyed is_class is low = absurd keyed
 next_unused first_pair first_element texts b l class fill (content.Deque deque) keyed is_class is low = absurd keyed
+
+-- and stores nothing
+pub next_stores : (first_pair : FirstEntriesArePairs) (first_element : FirstEntriesAreElements) (texts b l : List ℕ) (class fill : ℕ) (d : Content) → IsKeyed (kind_of d) → IsClass class → StandsAs texts b (0 ∷ 0 ∷ l) (use_with class fill) d → fill < rows (kind_of d) class → entry_field (slots class) l fill 4 ≡ 0
+next_stores first_pair first_element texts b l class fill (content.Dict pairs) keyed is_class is low =
+    let room = dict.room_is first_pair texts b class fill is_class pairs l is in
+    let filled = is.filled in
+    let u = is.table.unused fill (omega (arith, filled)) (omega (arith, room, low)) in
+    sym (word_is (λ hash. dict_slots hash (class_mask class) (class_mask class + 14)) (dict_room (class_mask class)) texts class is_class is.used l is.table fill 4) ∙ u.value.kind_is
+next_stores first_pair first_element texts b l class fill (content.Set elements) keyed is_class is low =
+    let room = set.room_is first_element texts b class fill is_class elements l is in
+    let filled = is.filled in
+    let u = is.table.unused fill (omega (arith, filled)) (omega (arith, room, low)) in
+    sym (word_is (λ hash. set_slots hash (class_mask class) (class_mask class + 14)) (set_room (class_mask class)) texts class is_class is.used l is.table fill 4) ∙ u.value.kind_is
+next_stores first_pair first_element texts b l class fill (content.List values) keyed is_class is low = absurd keyed
+next_stores first_pair first_element texts b l class fill (content.Deque deque) keyed is_class is low = absurd keyed
 
 -- ---- the payload of the key's words
 
@@ -347,6 +373,7 @@ module _ (laws : PlaceLaws) (texts : List ℕ) (x : ContainerWords) (t slot : �
     long = fresh.long;
     even = fresh.even;
     none = next_unused laws.first_pair laws.first_element texts fresh.before ws c p d fresh.keyed fresh.is_class fresh.says fresh.room;
+    stores = next_stores laws.first_pair laws.first_element texts fresh.before ws c p d fresh.keyed fresh.is_class fresh.says fresh.room;
     free = slot_free;
   }
 

@@ -1,5 +1,5 @@
 -- What a call comes to that puts a key, by whether the key is there.
-use Rattle.std.proofs.Common.{◌≡◌, ℕ, ◌+◌, Bool, true, false, Option, Some, None, refl, sym, ap, ◌∙◌, subst}
+use Rattle.std.proofs.Common.{◌≡◌, ℕ, ◌+◌, Bool, true, false, Option, None, refl, sym, ap, ◌∙◌, subst}
 use Rattle.std.specs.Prelude.{nat_lt, if◌then◌else◌}
 use Rattle.ft_model.specs.declared.call.Call.{Call}
 use Rattle.ft_model.specs.declared.content.Content.{Content}
@@ -10,10 +10,11 @@ use Rattle.ft_model.specs.Worlds.{length_of}
 use Rattle.ft_trace.specs.declared.Shape.{Shape}
 use Rattle.ft_trace.specs.declared.View.{View}
 use Rattle.ft_trace.specs.Acts.{flight, used}
-use Rattle.ft_trace.specs.Holds.{held_words, known_state}
+use Rattle.ft_trace.specs.Holds.{held_unboxed, known_state}
 use Rattle.ft_trace.specs.Pictures.{root_in}
 use Rattle.ft_trace.specs.ContainerStates.{ContainerState, changes}
 use Rattle.ft_bank.specs.declared.table.Table.{Table}
+use Rattle.ft_bank.specs.SameBoxes.{SameReferences}
 use Rattle.ft_bank.specs.Whole.{OnlyLoaded, Wrote}
 use Rattle.ft_bank.proofs.KnownAfterWrites.{loaded_then, work_knows}
 use Rattle.ft_section.specs.declared.answers.Stamp.{Stamp}
@@ -42,12 +43,12 @@ module _ (k : Shape) (o : ℕ) (key : Key) (called : Call) (said : Reply) (v u w
   same = work_knows v u o only.work
 
   -- it is there
-  pub puts_present : (stamp : Stamp) → changes called ≡ o → holds (known_state o u).content key ≡ true → stamp.wrote ≡ true → Wrote called said stamp.number u w → root_in (held_words o w) ≡ root_in (held_words o u) → PutsKey k o key called said v w (added.Made stamp)
-  puts_present stamp at there is wrote root =
+  pub puts_present : (stamp : Stamp) → changes called ≡ o → holds (known_state o u).content key ≡ true → stamp.wrote ≡ true → Wrote called said stamp.number u w → root_in (held_unboxed o w) ≡ root_in (held_unboxed o u) → SameReferences u w → PutsKey k o key called said v w (added.Made stamp)
+  puts_present stamp at there is wrote root references =
       let takes : None ≡ puts_takes (known_state o v) key = sym (ap (λ (b : Bool). if b then None else key_takes (known_state o u).content (known_state o u).table) there) ∙ ap (λ (z : ContainerState). puts_takes z key) same in
       let over : false ≡ puts_over (known_state o v) key = sym (ap (λ (b : Bool). if b then false else nat_lt (most_of (known_state o u).content) (length_of (known_state o u).content + 1)) there) ∙ ap (λ (z : ContainerState). puts_over z key) same in
-      let root_at = subst (λ (n : ℕ). root_in (held_words n w) ≡ root_in (held_words n u)) (sym at) root in
-      let made : IsAdded k None false called said u w (added.Made stamp) = (refl, is, record { wrote = wrote; root = root_at }) in
+      let root_at = subst (λ (n : ℕ). root_in (held_unboxed n w) ≡ root_in (held_unboxed n u)) (sym at) root in
+      let made : IsAdded k None false called said u w (added.Made stamp) = (refl, is, record { wrote = wrote; root = root_at; references = references }) in
       (u, only, subst (λ (z : Option ℕ × Bool). IsAdded k z.0 z.1 called said u w (added.Made stamp)) (λ i. (takes i, over i)) made)
 
   -- it isn't
@@ -67,6 +68,7 @@ may_add k o old v u only unused idle may keyed = record {
   used = only.work.used ∙ unused;
   owes = may.owes;
   idle = only.work.pass.flight ∙ idle;
+  boxes = may.boxes;
   left = may.left;
 }
 

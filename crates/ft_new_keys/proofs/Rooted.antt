@@ -1,14 +1,12 @@
 -- A dict or a set that gets another table, filled with what it has: that the root may be put, and what a new key finds there.
-use Rattle.std.proofs.Common.{◌≡◌, ◌≢◌, ℕ, zero, suc, ◌+◌, ◌*◌, ◌^◌, ◌%◌, ◌<◌, ◌≤◌, Bool, true, false, true≢false, List, [], ◌∷◌, length, filter, Option, Some, None, refl, sym, ap, ◌∙◌, subst, arith, length-set, get_or-set_same, get_or-set_other}
+use Rattle.std.proofs.Common.{◌≡◌, ◌≢◌, ℕ, suc, ◌^◌, ◌<◌, true, true≢false, List, ◌∷◌, filter, Option, Some, None, sym, ap, ◌∙◌, subst, arith, length-set, get_or-set_same, get_or-set_other}
 use Rattle.std.specs.Prelude.{All, is_some, slice_index, slice_set}
 use Rattle.std.specs.Option.{unwrap_or}
 use Rattle.ft_model.specs.declared.content.Content.{Content}
 use Rattle.ft_model.specs.declared.content.Content.TheVariants as content
 use Rattle.ft_model.specs.declared.data.Key.{Key}
 use Rattle.ft_model.specs.declared.script.Kind.{Kind}
-use Rattle.ft_model.specs.declared.script.Kind.TheVariants as kind
 use Rattle.ft_model.specs.Classes.{IsClass}
-use Rattle.ft_model.specs.TableUses.{TableUse}
 use Rattle.ft_model.specs.Worlds.{kind_of, length_of, serial_of}
 use Rattle.ft_layout.specs.declared.slot.Stored.{Stored}
 use Rattle.ft_layout.specs.Containers.{class_mask, IsRoot, IsBlock, StandsAs}
@@ -21,15 +19,14 @@ use Rattle.ft_keys.specs.Ways.{walk_slots, IsTableOf}
 use Rattle.ft_trace.specs.declared.Act.TheVariants.{StartWrite}
 use Rattle.ft_trace.specs.declared.Shape.{Shape}
 use Rattle.ft_trace.specs.declared.View.{View}
-use Rattle.ft_trace.specs.Acts.{has_lock, is_writing, mem, view_after, stage}
-use Rattle.ft_trace.specs.Addresses.{container_count, class_of, slots, size}
-use Rattle.ft_trace.specs.Carefuls.{Sound}
-use Rattle.ft_trace.specs.Holds.{held_words, known_state, in_hand}
+use Rattle.ft_trace.specs.Acts.{is_writing, mem, view_after, stage}
+use Rattle.ft_trace.specs.Addresses.{class_of}
+use Rattle.ft_trace.specs.Boxes.{named_in_root, known_box_word}
+use Rattle.ft_trace.specs.Holds.{held_unboxed, known_state, in_hand, hand_unboxed}
 use Rattle.ft_trace.specs.Kinds.{rows, version_at, SoundAs, IsKeyed}
 use Rattle.ft_trace.specs.OddVersions.{Shut}
 use Rattle.ft_trace.specs.Traces.{IsReachable}
-use Rattle.ft_trace.specs.Pictures.{ContainerWords, root_in, entry_offset, entry_field, Represents}
-use Rattle.ft_trace.specs.ContainerStates.{ContainerState, kind_in}
+use Rattle.ft_trace.specs.ContainerStates.{kind_in}
 use Rattle.ft_trace.proofs.ByKind.{keyed_fit}
 use Rattle.ft_trace.proofs.Cases.{hit}
 use Rattle.ft_trace.proofs.DictWrites as dict
@@ -45,13 +42,14 @@ use Rattle.ft_search.specs.Held.{IsHeldAt}
 use Rattle.ft_search.specs.Rounds.{kind_by}
 use Rattle.ft_search.proofs.Changing.{kind_is, shut_known}
 use Rattle.ft_search.proofs.WordPlaces.{slots_of_class}
-use Rattle.ft_search.proofs.Puts.{keyed_version, table_class}
+use Rattle.ft_search.proofs.Puts.{few_done, keyed_value, keyed_version, table_class}
+use Rattle.ft_table_calls.proofs.PlainTables.{ArePlain, plain_named, plain_reads}
 use Rattle.ft_new_keys.specs.declared.counts.Counts.{Counts}
 use Rattle.ft_new_keys.specs.Fresh.{IsFilledWith}
-use Rattle.ft_new_keys.specs.KeyGrowth.{KnowsKeyed, MayGrowKeyed, IsFreeFor}
+use Rattle.ft_new_keys.specs.KeyGrowth.{MayGrowKeyed, IsFreeFor}
 use Rattle.ft_new_keys.specs.Placing.{AreCounts, StoresAs, counted}
 use Rattle.ft_new_keys.proofs.Keyed.{Heads, way_is, counts_known}
-use Rattle.ft_new_keys.proofs.Placed.{Fresh, way_of, use_with, none_used, counted_head, kind_shut}
+use Rattle.ft_new_keys.proofs.Placed.{Fresh, use_with, none_used, counted_head, kind_shut}
 
 -- ---- readers of a table that stands for a content
 
@@ -110,7 +108,7 @@ module _ (first_pair : FirstEntriesArePairs) (first_element : FirstEntriesAreEle
   ws = in_hand (table_id table) v
 
   abbrev b : List ℕ
-  b = slice_set (held_words o v).block 0 (suc (table_id table))
+  b = slice_set (held_unboxed o v).block 0 (suc (table_id table))
 
   content_kind : kind_of d ≡ kind_in k.starts o
   content_kind = kind_is k v o shape possible may.keyed.locked
@@ -122,7 +120,7 @@ module _ (first_pair : FirstEntriesArePairs) (first_element : FirstEntriesAreEle
   is_class = (named k table may.table_in).0
 
   head : IsBlock b (Some c) (length_of d) (known_state o v).table.fill (serial_of d)
-  head = rooted_head (held_words o v).block (known_state o v).table.class k table (length_of d) (known_state o v).table.fill (serial_of d) (heads k.texts (held_words o v).block (0 ∷ 0 ∷ (held_words o v).table) (known_state o v).table d may.keyed.stands) may.table_in
+  head = rooted_head (held_unboxed o v).block (known_state o v).table.class k table (length_of d) (known_state o v).table.fill (serial_of d) (heads k.texts (held_unboxed o v).block (0 ∷ 0 ∷ (held_unboxed o v).table) (known_state o v).table d may.keyed.stands) may.table_in
 
   abbrev before : List ℕ
   before = counted b (length_of d) (length_of d) (serial_of d)
@@ -147,20 +145,39 @@ module _ (first_pair : FirstEntriesArePairs) (first_element : FirstEntriesAreEle
       subst (λ (z : Kind). (p : ℕ) → p < rows z c → slice_index ws (version_at z c p) ≡ 0) kind_v
       (λ p low. ap (slice_index ws) (keyed_version (kind_of d) keyed_d c p) ∙ filled.versions p low)
 
+  -- its values all stand in place
+  pub plain_here : ArePlain (kind_in v.shape.starts o) c ws (rows (kind_in v.shape.starts o) c)
+  plain_here =
+      subst (λ (z : Kind). ArePlain z c ws (rows z c)) kind_v
+      (λ p low four. filled.plain p low (ap (slice_index ws) (sym (keyed_value (kind_of d) keyed_d c p)) ∙ four))
+
+  pub reads_here : hand_unboxed o (table_id table) v ≡ ws
+  reads_here = plain_reads (λ b i. known_box_word v.shape b i v.log) (kind_in v.shape.starts o) (table_id table) ws plain_here
+
+  names_none : (b : ℕ) → named_in_root b (kind_in v.shape.starts o) (suc (table_id table)) ws ≡ 0
+  names_none b = plain_named b (table_id table) (kind_in v.shape.starts o) ws plain_here
+
   shut_here : IsShut o v
-  shut_here t names = subst (λ (z : Kind). Shut (version_at z (class_of t)) (rows z (class_of t)) (held_words o v).table) kind_v (shut_known k v o t shape possible may.keyed.container may.keyed.locked may.keyed.even names)
+  shut_here t names = subst (λ (z : Kind). Shut (version_at z (class_of t)) (rows z (class_of t)) (held_unboxed o v).table) kind_v (shut_known k v o t shape possible may.keyed.container may.keyed.locked may.keyed.even names)
 
   pub may_root : (f : ℕ) → MayPutRoot (view_after (StartWrite o f) v) o (Some table)
   may_root f = record {
     odd = hit o true (is_writing o v.log);
     fresh = λ t e. subst (λ (z : Table). stage (table_id z) v.log ≡ 1) (the_one t e) may.fresh;
-    sound = λ t e. subst (λ (z : Table). SoundAs (kind_in v.shape.starts o) v.shape.texts (class_of (table_id z)) (in_hand (table_id z) v) d) (the_one t e) sound_here;
+    sound = λ t e. subst (λ (z : Table). SoundAs (kind_in v.shape.starts o) v.shape.texts (class_of (table_id z)) (hand_unboxed o (table_id z) v) d) (the_one t e)
+        (subst (λ (l : List ℕ). SoundAs (kind_in v.shape.starts o) v.shape.texts c l d) (sym reads_here) sound_here);
     young = λ t p e row.
-        let here = subst (λ (z : Table). (q : ℕ) → q < rows (kind_in v.shape.starts o) (class_of (table_id z)) → slice_index (in_hand (table_id z) v) (version_at (kind_in v.shape.starts o) (class_of (table_id z)) q) ≡ 0) (the_one t e) young_here p row in
+        let here = subst (λ (z : Table). (q : ℕ) → q < rows (kind_in v.shape.starts o) (class_of (table_id z)) → slice_index (hand_unboxed o (table_id z) v) (version_at (kind_in v.shape.starts o) (class_of (table_id z)) q) ≡ 0) (the_one t e)
+        (λ q low. ap (λ (l : List ℕ). slice_index l (version_at (kind_in v.shape.starts o) c q)) reads_here ∙ young_here q low) p row in
         (omega (arith, here), (λ late. here));
     shut = shut_here;
     spare = λ some_one. may.used;
     early = λ e. absurd (true≢false (ap is_some e));
+    references = record {
+      few = few_done k v shape may.boxes;
+      enough = λ b. let none = names_none b in omega (arith, none);
+      known = λ b none some. absurd (some (names_none b));
+    };
   }
 
   -- no version is odd there
@@ -168,7 +185,7 @@ module _ (first_pair : FirstEntriesArePairs) (first_element : FirstEntriesAreEle
   shut_rooted = kind_shut (kind_of d) keyed_d c (rows (kind_of d) c) ws (λ p less. let z = filled.versions p less in omega (arith, z))
 
   -- a new key there
-  pub fresh_rooted : (by : Way) → kind_in k.starts o ≡ kind_by by → (slot : ℕ) (counts : Counts) (key : Key) (stored : Stored) → AreCounts (held_words o v).block counts → FitsKey key → hash_of k.texts key < 2 ^ 64 → StoresAs (kind_by by) stored → FitsStored stored → IsHeldAt d key None → IsFreeFor k.texts by table.class key ws slot → counts.count < rows (kind_by by) c
+  pub fresh_rooted : (by : Way) → kind_in k.starts o ≡ kind_by by → (slot : ℕ) (counts : Counts) (key : Key) (stored : Stored) → AreCounts (held_unboxed o v).block counts → FitsKey key → hash_of k.texts key < 2 ^ 64 → StoresAs (kind_by by) stored → FitsStored stored → IsHeldAt d key None → IsFreeFor k.texts by table.class key ws slot → counts.count < rows (kind_by by) c
       → Fresh k.texts (record { block = b; table = ws }) (table_id table) slot (record { count = counts.count; fill = counts.count; next = counts.next }) d key stored
   fresh_rooted by kind_eq slot counts key stored are fits low stores ok absent free room =
       let same = class_is table may.table_in.2 in

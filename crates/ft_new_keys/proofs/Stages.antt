@@ -1,5 +1,5 @@
 -- That the puts of a new entry mislead no reader without the lock, and what they leave of the table.
-use Rattle.std.proofs.Common.{◌≡◌, ◌≢◌, ◌⊎◌, ℕ, zero, suc, ◌+◌, ◌*◌, ◌%◌, ◌<◌, ◌≤◌, false, List, [], ◌∷◌, ◌++◌, length, refl, sym, ap, ◌∙◌, subst, inl, inr, arith}
+use Rattle.std.proofs.Common.{◌≡◌, ◌≢◌, ℕ, zero, suc, ◌+◌, ◌%◌, ◌<◌, false, List, [], ◌∷◌, ◌++◌, refl, sym, subst, inl, inr, arith}
 use Rattle.std.specs.Prelude.{slice_index, slice_set}
 use Rattle.std.proofs.lemmas.Bool.{cases_eq}
 use Rattle.ft_model.specs.declared.content.Content.{Content}
@@ -7,17 +7,17 @@ use Rattle.ft_model.specs.declared.data.Key.{Key}
 use Rattle.ft_model.specs.declared.script.Kind.{Kind}
 use Rattle.ft_model.specs.declared.script.Kind.TheVariants as kind
 use Rattle.ft_layout.specs.declared.slot.Pair.{Pair}
-use Rattle.ft_layout.specs.Words.{entry_words, key_kind, key_payload, stored_kind, stored_payload}
+use Rattle.ft_layout.specs.Words.{entry_words, key_kind}
 use Rattle.ft_keys.specs.declared.words.Access.{Access}
-use Rattle.ft_keys.specs.declared.words.Access.TheVariants.{PutIndex, PutEntry}
-use Rattle.ft_keys.specs.TableChanges.{unless_zero, entry_puts, place_puts}
+use Rattle.ft_keys.specs.declared.words.Access.TheVariants.{PutEntry}
+use Rattle.ft_keys.specs.TableChanges.{unless_zero, place_puts}
 use Rattle.ft_trace.specs.Addresses.{slots}
 use Rattle.ft_trace.specs.Carefuls.{Pairs, Careful}
 use Rattle.ft_trace.specs.Kinds.{under, rows, version_at, CarefulAs, IsKeyed}
 use Rattle.ft_trace.specs.OddVersions.{Timely}
 use Rattle.ft_trace.specs.Pictures.{entry_offset, entry_field}
 use Rattle.ft_trace.proofs.KeyPuts.{Stage, stage_first, stage_next, new_open, new_key, new_value, new_kind, new_index}
-use Rattle.ft_new_keys.specs.Internal.Laying.{IsUnused, put_in, laid}
+use Rattle.ft_new_keys.specs.Internal.Laying.{IsUnused, laid}
 use Rattle.ft_new_keys.proofs.Laid.{IsCarefulCall, AreCarefulCalls}
 
 -- ---- by the kind of the container

@@ -1,18 +1,17 @@
 -- A dict or a set for which a table was taken, and a call that adds a key to it, after the taking.
-use Rattle.std.proofs.Common.{◌≡◌, ◌≢◌, ℕ, suc, ◌+◌, ◌<◌, ◌≤◌, Bool, true, false, Option, Some, None, refl, sym, ap, ◌∙◌, subst, arith}
+use Rattle.std.proofs.Common.{◌≡◌, ℕ, suc, ◌+◌, ◌<◌, Option, sym, ap, ◌∙◌, subst}
 use Rattle.std.specs.Prelude.{nat_lt}
 use Rattle.ft_model.specs.declared.call.Call.{Call}
 use Rattle.ft_model.specs.declared.data.Key.{Key}
 use Rattle.ft_model.specs.declared.reply.Reply.{Reply}
-use Rattle.ft_model.specs.TableUses.{StoredWorld, CanLackMemory, TableUse, grown_table, takes_in, would_pass}
+use Rattle.ft_model.specs.TableUses.{StoredWorld, grown_table}
 use Rattle.ft_model.specs.Worlds.{length_of}
 use Rattle.ft_layout.specs.declared.slot.Stored.{Stored}
 use Rattle.ft_trace.specs.declared.Shape.{Shape}
 use Rattle.ft_trace.specs.declared.View.{View}
 use Rattle.ft_trace.specs.Acts.{has_lock, owes, stage}
-use Rattle.ft_trace.specs.Addresses.{container_count, class_of}
-use Rattle.ft_trace.specs.Holds.{held_words, known_state}
-use Rattle.ft_trace.specs.Traces.{IsReachable}
+use Rattle.ft_trace.specs.Addresses.{container_count}
+use Rattle.ft_trace.specs.Holds.{held_unboxed, known_state}
 use Rattle.ft_trace.specs.ContainerStates.{ContainerState, kinds_in}
 use Rattle.ft_bank.specs.declared.table.Table.{Table}
 use Rattle.ft_bank.specs.TableNames.{table_id, IsTableIn}
@@ -21,6 +20,7 @@ use Rattle.ft_bank.specs.Whole.{OnlyLoaded, SamePass}
 use Rattle.ft_bank.specs.WriteSteps.{MayHave}
 use Rattle.ft_bank.proofs.TableAddresses.{class_is}
 use Rattle.ft_bank.proofs.KnownAfterWrites.{work_knows}
+use Rattle.ft_search.proofs.Puts.{done_then}
 use Rattle.ft_new_keys.specs.KeyGrowth.{AddsKey, KnowsKeyed, MayAddKey, MayGrowKeyed, key_takes, most_of}
 use Rattle.ft_new_keys.specs.Placing.{with_key}
 use Rattle.ft_new_keys.proofs.Grown.{knows_on}
@@ -55,8 +55,8 @@ module _ (F : ℕ → Type 0) (v u : View) (same : SamePass v u) (keeps : KeepsB
   }
 
   module _ (k : Shape) (o : ℕ) (old : Option Table) (shape : v.shape ≡ k) (keyed : KnowsKeyed k o old v) where
-    pub tried_words : (held_words o u ≡ held_words o v) × (known_state o u ≡ known_state o v)
-    tried_words = keeps.held.words o (subst (λ (z : Shape). o < container_count z) (sym shape) keyed.container) keyed.locked
+    pub tried_words : (held_unboxed o u ≡ held_unboxed o v) × (known_state o u ≡ known_state o v)
+    tried_words = let e = keeps.held.words o (subst (λ (z : Shape). o < container_count z) (sym shape) keyed.container) keyed.locked in (e.2, e.1)
 
     pub tried_knows : KnowsKeyed k o old u
     tried_knows = knows_on k o old v u tried_words.0 tried_words.1 (same.locks o) (same.writes o) keyed
@@ -70,19 +70,21 @@ module _ (F : ℕ → Type 0) (v u : View) (same : SamePass v u) (keeps : KeepsB
     owed = owed ∙ ap suc (sym (class_is table table_in.2 ∙ of_class));
     fresh = fresh;
     table_in = table_in;
+    boxes = done_then k v u shape same.shape keeps.boxes.references keeps.boxes.made may.boxes;
     left = subst (λ (n : ℕ). 0 < n) (sym keeps.held.left) may.left;
   }
 
 -- ---- after loads
 
-module _ (k : Shape) (o : ℕ) (old : Option Table) (v u : View) (only : OnlyLoaded v u) (same : held_words o u ≡ held_words o v) where
-  pub may_loaded : MayAddKey k o old v → MayAddKey k o old u
-  may_loaded may = record {
+module _ (k : Shape) (o : ℕ) (old : Option Table) (v u : View) (only : OnlyLoaded v u) (same : held_unboxed o u ≡ held_unboxed o v) where
+  pub may_loaded : v.shape ≡ k → MayAddKey k o old v → MayAddKey k o old u
+  may_loaded shape may = record {
     keyed = knows_on k o old v u same (work_knows v u o only.work) (only.work.pass.locks o) (only.work.pass.writes o) may.keyed;
     even = λ p. only.work.pass.writes p ∙ may.even p;
     used = only.work.used ∙ may.used;
     owes = only.work.owes ∙ may.owes;
     idle = only.work.pass.flight ∙ may.idle;
+    boxes = done_then k v u shape only.work.pass.shape only.boxes.references only.boxes.made may.boxes;
     left = subst (λ (n : ℕ). 0 < n) (sym only.work.left) may.left;
   }
 

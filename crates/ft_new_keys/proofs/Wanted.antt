@@ -1,12 +1,10 @@
 -- Which table a dict or a set takes for one more key, by the table that it has.
-use Rattle.std.proofs.Common.{◌≡◌, ◌≢◌, ℕ, suc, ◌+◌, ◌*◌, ◌/◌, ◌^◌, ◌<◌, ◌≤◌, Bool, true, false, true≢false, length, Option, Some, None, refl, sym, ap, ◌∙◌, subst, arith, le-ltb, ltb-true, ltb-false, []}
-use Rattle.std.specs.Prelude.{◌&&◌, is_some, nat_lt, if◌then◌else◌}
+use Rattle.std.proofs.Common.{◌≡◌, ◌≢◌, ℕ, ◌+◌, ◌*◌, ◌^◌, ◌<◌, ◌≤◌, Bool, true, false, true≢false, length, Option, Some, None, refl, sym, ap, ◌∙◌, subst, arith, le-ltb, ltb-false, []}
+use Rattle.std.specs.Prelude.{is_some, nat_lt, if◌then◌else◌}
 use Rattle.std.specs.Option.{unwrap_or}
 use Rattle.ft_model.specs.declared.content.Content.{Content}
 use Rattle.ft_model.specs.declared.content.Content.TheVariants as content
-use Rattle.ft_model.specs.declared.script.Kind.{Kind}
-use Rattle.ft_model.specs.declared.script.Kind.TheVariants as kind
-use Rattle.ft_model.specs.Classes.{IsClass, dict_class, dict_entries, most_pairs, most_elements, most_items, set_class, set_entries}
+use Rattle.ft_model.specs.Classes.{dict_class, dict_entries, set_class, set_entries}
 use Rattle.ft_model.specs.TableUses.{TableUse, grown_table, outgrows_dict, outgrows_set}
 use Rattle.ft_model.specs.Worlds.{kind_of, length_of}
 use Rattle.ft_model.proofs.ClassRooms.{dict_fits, set_fits}

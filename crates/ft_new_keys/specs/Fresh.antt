@@ -1,16 +1,15 @@
 -- A table that is fresh in the pass's hand, as it is filled with what a dict or a set has.
-use Rattle.std.specs.Prelude.{◌≡◌, ℕ, suc, ◌<◌, true, false, List, [], ◌∷◌, Option, Some, length, slice_index}
+use Rattle.std.specs.Prelude.{◌≡◌, ◌≢◌, ℕ, suc, ◌<◌, true, false, List, [], ◌∷◌, Some, length, slice_index}
 use Rattle.ft_model.specs.declared.content.Content.{Content}
-use Rattle.ft_model.specs.TableUses.{TableUse}
 use Rattle.ft_model.specs.Worlds.{kind_of, length_of, serial_of}
 use Rattle.ft_layout.specs.Containers.{class_mask, IsBlock, StandsAs}
-use Rattle.ft_layout.specs.Tables.{dict_room}
 use Rattle.ft_keys.specs.declared.words.Access.{Access}
 use Rattle.ft_keys.specs.Accesses.{Tells, TellsOld, put_by}
 use Rattle.ft_trace.specs.Acts.{has_lock, is_writing, stage}
 use Rattle.ft_trace.specs.Addresses.{container_count, class_of, slots, size}
-use Rattle.ft_trace.specs.Holds.{held_words, in_hand}
-use Rattle.ft_trace.specs.Kinds.{rows}
+use Rattle.ft_trace.specs.Holds.{held_unboxed, in_hand}
+use Rattle.ft_trace.specs.ContainerStates.{kind_in}
+use Rattle.ft_trace.specs.Kinds.{rows, IsKeyed}
 use Rattle.ft_trace.specs.Pictures.{root_in, entry_field}
 use Rattle.ft_bank.specs.Passes.{shape_of, view, IsPassOf}
 use Rattle.ft_bank.specs.PassSections.{stack_of}
@@ -18,30 +17,31 @@ use Rattle.ft_bank.specs.TableNames.{table_id, IsTableIn}
 use Rattle.ft_table_calls.specs.Adding.{OnlyFilled}
 use Rattle.ft_new_keys.specs.declared.fresh.FreshWords.{FreshWords}
 
--- The pass has the new table fresh in its hand, and the lock of the container, whose root names the old one and which
--- it doesn't write. (profile)
+-- The pass has the new table fresh in its hand, and the lock of the container, a dict or a set, whose root names the
+-- old one and which it doesn't write. (profile)
 pub record CanFill (s : FreshWords) : Type 0 where
   pub pass : IsPassOf s.bank.now s.pass.now
   pub container : s.o < container_count (shape_of s.bank.now)
+  pub keyed : IsKeyed (kind_in (shape_of s.bank.now).starts s.o)
   pub locked : has_lock s.o (view s.pass.now).log ≡ true
   pub even : is_writing s.o (view s.pass.now).log ≡ false
   pub old_in : IsTableIn (shape_of s.bank.now) s.old
-  pub old_root : root_in (held_words s.o (view s.pass.now)) ≡ suc (table_id s.old)
+  pub old_root : root_in (held_unboxed s.o (view s.pass.now)) ≡ suc (table_id s.old)
   pub old_mask : s.old_mask ≡ class_mask s.old.class
   pub table_in : IsTableIn (shape_of s.bank.now) s.table
   pub fresh : stage (table_id s.table) (view s.pass.now).log ≡ 1
   pub mask : s.mask ≡ class_mask s.table.class
 
--- the words of the new table and of the old one, after headers that say nothing
+-- the words of the new table and what those of the old one read, after headers that say nothing
 abbrev pub fresh_words : FreshWords → List ℕ
 fresh_words s = 0 ∷ 0 ∷ in_hand (table_id s.table) (view s.pass.now)
 
 abbrev pub old_words : FreshWords → List ℕ
-old_words s = 0 ∷ 0 ∷ (held_words s.o (view s.pass.now)).table
+old_words s = 0 ∷ 0 ∷ (held_unboxed s.o (view s.pass.now)).table
 
 -- how many entries the old one has
 abbrev pub old_entries : FreshWords → ℕ
-old_entries s = dict_room s.old_mask
+old_entries s = rows (kind_in (shape_of s.bank.now).starts s.o) (class_of (table_id s.old))
 
 -- The call was a load or a put of one word: the words answered it, and have what it put. (profile)
 pub record FreshMade (s : FreshWords) (access : Access) (t : FreshWords) : Type 0 where
@@ -70,9 +70,10 @@ pub record HasZeroWords (class : ℕ) (words : List ℕ) : Type 0 where
   pub zeros : (i : ℕ) → slice_index words i ≡ 0
 
 -- The words of a table of this class have what a dict or a set has, each pair or element in one entry, in their order,
--- with its serial, and no entry for another key; each version is 0. (profile)
+-- with its serial, and no entry for another key; each version is 0, and no value names a box. (profile)
 pub record IsFilledWith (texts : List ℕ) (class : ℕ) (content : Content) (words : List ℕ) : Type 0 where
   pub says : (block : List ℕ) → IsBlock block (Some class) (length_of content) (length_of content) (serial_of content)
       → StandsAs texts block (0 ∷ 0 ∷ words)
       (record { class = Some class; fill = length_of content; keys = [] }) content
   pub versions : (place : ℕ) → place < rows (kind_of content) class → entry_field (slots class) words place 0 ≡ 0
+  pub plain : (place : ℕ) → place < rows (kind_of content) class → entry_field (slots class) words place 4 ≢ 4

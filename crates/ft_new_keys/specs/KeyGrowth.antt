@@ -17,22 +17,26 @@ use Rattle.ft_layout.specs.Tables.{hash_of}
 use Rattle.ft_keys.specs.declared.walk.Way.{Way}
 use Rattle.ft_keys.specs.TableChanges.{FirstFree}
 use Rattle.ft_keys.specs.Ways.{walk_slots}
+use Rattle.ft_trace.specs.declared.Act.TheVariants.{StartWrite, PutRoot}
 use Rattle.ft_trace.specs.declared.Shape.{Shape}
 use Rattle.ft_trace.specs.declared.View.{View}
-use Rattle.ft_trace.specs.Acts.{has_lock, is_writing, owes, stage, used, flight}
+use Rattle.ft_trace.specs.Acts.{has_lock, is_writing, owes, stage, used, flight, view_after}
 use Rattle.ft_trace.specs.Addresses.{container_count, class_of}
+use Rattle.ft_trace.specs.Boxes.{references_held, IsDoneWithBoxes}
 use Rattle.ft_trace.specs.FitCalls.{FitsCall}
-use Rattle.ft_trace.specs.Holds.{held_words, known_state}
+use Rattle.ft_trace.specs.Holds.{held_words, held_unboxed, known_state}
 use Rattle.ft_trace.specs.Kinds.{IsKeyed}
 use Rattle.ft_trace.specs.BegunSections.{HasLocksOf}
 use Rattle.ft_trace.specs.Pictures.{root_in, Represents}
 use Rattle.ft_trace.specs.ContainerStates.{state_at, kind_in, changes}
 use Rattle.ft_bank.specs.declared.table.Table.{Table}
 use Rattle.ft_bank.specs.TableNames.{table_id, root_for, IsTableIn}
-use Rattle.ft_bank.specs.Whole.{OnlyLoaded}
-use Rattle.ft_bank.specs.WriteSteps.{MayHave}
+use Rattle.ft_bank.specs.SameBoxes.{MovesReferences}
+use Rattle.ft_bank.specs.Whole.{OnlyLoaded, OnlyWritten}
+use Rattle.ft_bank.specs.WriteSteps.{KeepsUnwritten, MayHave}
 use Rattle.ft_table_calls.specs.declared.adding.Added.{Added}
 use Rattle.ft_table_calls.specs.Adding.{IsAdded}
+use Rattle.ft_table_calls.specs.Dropping.{HoldsNamed}
 use Rattle.ft_search.specs.MadeCalls.{IsReplyTo}
 use Rattle.ft_new_keys.specs.Placing.{with_key}
 
@@ -45,19 +49,20 @@ pub record KnowsKeyed (k : Shape) (o : ℕ) (old : Option Table) (v : View) : Ty
   pub keyed : IsKeyed (kind_in k.starts o)
   pub locked : has_lock o v.log ≡ true
   pub even : is_writing o v.log ≡ false
-  pub stands : Represents k.texts (held_words o v) (known_state o v)
+  pub stands : Represents k.texts (held_unboxed o v) (known_state o v)
   pub table_in : (t : Table) → old ≡ Some t → IsTableIn k t
-  pub root : root_in (held_words o v) ≡ root_for old
+  pub root : root_in (held_unboxed o v) ≡ root_for old
 
 -- Besides it writes no container, is in the midst of no taking or giving of a table, and of no other write that took a
--- table out of a root; it has lowered no count of a class that it hasn't raised again, and it has a call left.
--- (profile)
+-- table out of a root; it has lowered no count of a class that it hasn't raised again, holds no reference for a box and
+-- makes none, and it has a call left. (profile)
 pub record MayAddKey (k : Shape) (o : ℕ) (old : Option Table) (v : View) : Type 0 where
   pub keyed : KnowsKeyed k o old v
   pub even : (p : ℕ) → is_writing p v.log ≡ false
   pub used : used v.log ≡ false
   pub owes : owes v.log ≡ 0
   pub idle : flight v.log ≡ 0
+  pub boxes : IsDoneWithBoxes k v.log
   pub left : 0 < v.left
 
 -- Or it has taken this table, which is fresh in its hand, and has raised no count since. (profile)
@@ -68,7 +73,25 @@ pub record MayGrowKeyed (k : Shape) (o : ℕ) (old : Option Table) (table : Tabl
   pub owed : owes v.log ≡ suc (class_of (table_id table))
   pub fresh : stage (table_id table) v.log ≡ 1
   pub table_in : IsTableIn k table
+  pub boxes : IsDoneWithBoxes k v.log
   pub left : 0 < v.left
+
+-- The pass made the version of the container odd and put this table into its root. Then it dropped the references that
+-- the words had no longer. (profile)
+pub record BeginsIn (o : ℕ) (table : Table) (v w : View) : Type 0 where
+  pub found : ℕ
+  pub rooted : View
+  pub is : rooted ≡ view_after (PutRoot o (suc (table_id table)) (root_in (held_words o v)))
+      (view_after (StartWrite o found) v)
+  pub keeps : KeepsUnwritten (view_after (StartWrite o found) v) rooted
+  pub moves : MovesReferences o (view_after (StartWrite o found) v) rooted
+  pub only : OnlyWritten o rooted w
+
+-- The pass holds the references of the boxes that a table names which it took out of the root of the container o, if it
+-- took one out, and no others. (profile)
+abbrev pub HoldsOld : Shape → ℕ → Option Table → View → Type 0
+HoldsOld k o None v = (b : ℕ) → references_held k b v.log ≡ 0
+HoldsOld k o (Some t) v = HoldsNamed k o (table_id t) v
 
 -- the slot is the first one for the key in a table with these words, after their header, that was never used
 abbrev pub IsFreeFor : List ℕ → Way → ℕ → Key → List ℕ → ℕ → Type 0

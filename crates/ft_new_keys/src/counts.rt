@@ -2,7 +2,7 @@
 ghost use Rattle.std.specs.Prelude.{◌≡◌, ◌<◌, true};
 ghost use Rattle.ft_trace.specs.Acts.{has_lock};
 ghost use Rattle.ft_trace.specs.Addresses.{container_count};
-ghost use Rattle.ft_trace.specs.Holds.{held_words};
+ghost use Rattle.ft_trace.specs.Holds.{held_unboxed};
 ghost use Rattle.ft_bank.specs.Passes.{shape_of, view, IsPassOf};
 ghost use Rattle.ft_bank.specs.PassSections.{stack_of};
 ghost use Rattle.ft_bank.specs.Whole.{OnlyLoaded};
@@ -39,7 +39,7 @@ pub fn read_counts(bank: &Bank, pass: &mut Pass, o: u32) -> Counts
     ensures pass { IsPassOf bank.now pass.new }
     ensures stack { stack_of pass.new ≡ stack_of pass.old }
     ensures only { OnlyLoaded (view pass.old) (view pass.new) }
-    ensures counts { AreCounts (held_words o (view pass.old)).block result }
+    ensures counts { AreCounts (held_unboxed o (view pass.old)).block result }
 {
     let count = bank.read_block(pass, o, COUNT);
     let fill = bank.read_block(pass, o, FILL);

@@ -7,7 +7,7 @@ ghost use Rattle.ft_model.specs.declared.content.Content.{Content};
 ghost use Rattle.ft_model.specs.Worlds.{length_of};
 ghost use Rattle.ft_trace.specs.Acts.{has_lock, is_writing, stage};
 ghost use Rattle.ft_trace.specs.Addresses.{container_count, class_of};
-ghost use Rattle.ft_trace.specs.Holds.{held_words, in_hand, known_state};
+ghost use Rattle.ft_trace.specs.Holds.{held_unboxed, in_hand, known_state};
 ghost use Rattle.ft_trace.specs.Kinds.{rows};
 ghost use Rattle.ft_trace.specs.Pictures.{root_in, Represents};
 ghost use Rattle.ft_trace.specs.ContainerStates.{kind_in};
@@ -52,7 +52,8 @@ fn rebuild_in(words: &mut FreshWords<'_>, way: Way, mask: u64, old_fill: u64) ->
     ensures stack { stack_of words.exit.now.pass.now ≡ stack_of words.entry.now.pass.now }
     ensures may { IsPassOf words.entry.now.bank.now words.exit.now.pass.now }
     ensures only { OnlyFilled (view words.entry.now.pass.now) (view words.exit.now.pass.now) }
-    ensures moves { Moves FreshMade mask words.entry.now words.exit.now (13 * old_fill) result (Rebuilds way mask old_fill result) }
+    ensures moves { Moves FreshMade mask words.entry.now words.exit.now (13 * old_fill) result
+        (Rebuilds way mask old_fill result) }
 {
     rebuild(words, way, mask, old_fill)
 }
@@ -78,7 +79,8 @@ fn copy_entries(
     ensures pass { IsPassOf bank.now pass.new }
     ensures stack { stack_of pass.new ≡ stack_of pass.old }
     ensures only { OnlyFilled (view pass.old) (view pass.new) }
-    ensures filled { IsFilledWith (shape_of bank.now).texts (class_of (table_id table)) (known_state o (view pass.old)).content
+    ensures filled { IsFilledWith (shape_of bank.now).texts (class_of (table_id table))
+        (known_state o (view pass.old)).content
         (in_hand (table_id table) (view pass.new)) }
 {
     calls_keep_versions();
@@ -119,7 +121,8 @@ pub fn fill(
     ensures pass { IsPassOf bank.now pass.new }
     ensures stack { stack_of pass.new ≡ stack_of pass.old }
     ensures only { OnlyFilled (view pass.old) (view pass.new) }
-    ensures filled { IsFilledWith (shape_of bank.now).texts (class_of (table_id table)) (known_state o (view pass.old)).content
+    ensures filled { IsFilledWith (shape_of bank.now).texts (class_of (table_id table))
+        (known_state o (view pass.old)).content
         (in_hand (table_id table) (view pass.new)) }
 {
     changed_words_are_of_a_table();

@@ -1,7 +1,46 @@
 //! The words of a table that is fresh in a pass's hand, which no other pass reads, and those of the table that
-//! it is to take the place of, for `ft_keys::rebuild`.
+//! it is to take the place of, for `ft_keys::rebuild`. Values of the old one that stand in boxes are read there: the
+//! new one gets them in place.
+ghost use Rattle.std.specs.Prelude.{◌≡◌, ℕ, suc, ◌+◌, ◌<◌, true, slice_index};
+ghost use Rattle.ft_trace.specs.Acts.{has_lock};
+ghost use Rattle.ft_trace.specs.Addresses.{container_count, class_of};
+ghost use Rattle.ft_trace.specs.Boxes.{value_at};
+ghost use Rattle.ft_trace.specs.ContainerStates.{kind_in};
+ghost use Rattle.ft_trace.specs.Holds.{held_words, held_unboxed};
+ghost use Rattle.ft_trace.specs.Kinds.{rows};
+ghost use Rattle.ft_trace.specs.Pictures.{root_in};
+ghost use Rattle.ft_bank.specs.Passes.{shape_of, view, IsPassOf};
+ghost use Rattle.ft_bank.specs.PassSections.{stack_of};
+ghost use Rattle.ft_bank.specs.TableNames.{table_id, IsTableIn};
+ghost use Rattle.ft_bank.specs.Whole.{OnlyLoaded};
+
 use ft_bank::{Bank, Pass, Table};
 use ft_keys::{Move as TableMove, Words};
+use ft_layout::entry_word::{VALUE, VALUE_KIND};
+use ft_search::{named_boxes_are_known, read_value};
+
+/// What a value of a container's table reads, whose kind lies at this word: its kind and its payload, those in its box
+/// where it names one. The pass has the container's lock.
+pub fn read_stored(bank: &Bank, pass: &mut Pass, o: u32, table: Table, word: u64) -> (u64, u64)
+    requires pass { IsPassOf bank.now pass.old }
+    requires container { o < container_count (shape_of bank.now) }
+    requires locked { has_lock o (view pass.old).log ≡ true }
+    requires table { IsTableIn (shape_of bank.now) table }
+    requires root { root_in (held_words o (view pass.old)) ≡ suc (table_id table) }
+    requires value { (row : ℕ) × (row < rows (kind_in (shape_of bank.now).starts o) (class_of (table_id table)))
+        × (word ≡ value_at (kind_in (shape_of bank.now).starts o) (class_of (table_id table)) row) }
+    ensures pass { IsPassOf bank.now pass.new }
+    ensures stack { stack_of pass.new ≡ stack_of pass.old }
+    ensures only { OnlyLoaded (view pass.old) (view pass.new) }
+    ensures kind { result.0 ≡ slice_index (held_unboxed o (view pass.old)).table word }
+    ensures payload { result.1 ≡ slice_index (held_unboxed o (view pass.old)).table (word + 1) }
+{
+    let _ = o;
+    let kind = bank.read_table(pass, table, word);
+    let payload = bank.read_table(pass, table, word + 1);
+    named_boxes_are_known(pass);
+    read_value(bank, pass, kind, payload)
+}
 
 /// The words of a fresh table, and of the one that a container has.
 #[derive(Drop)]
@@ -56,16 +95,26 @@ impl<'a> Words for FreshWords<'a> {
 }
 
 impl<'a> TableMove for FreshWords<'a> {
-    ghost use Rattle.std.proofs.Common.{ap};
-    ghost use Rattle.ft_layout.specs.Tables.{dict_room};
     ghost use Rattle.ft_new_keys.specs.Fresh.{old_entries};
+    ghost use Rattle.ft_trace.specs.Addresses.{class_of};
+    ghost use Rattle.ft_trace.specs.ContainerStates.{kind_in};
+    ghost use Rattle.ft_trace.specs.Kinds.{rows};
+    ghost use Rattle.ft_bank.specs.Passes.{shape_of};
+    ghost use Rattle.ft_bank.specs.TableNames.{table_id};
 
     ghost old_room = { old_entries };
 
     fn old_entry(&mut self, place: u64, word: u64) -> u64 {
-        let at = 8 * place + word + self.old_mask + 1;
-        self.bank.read_table(self.pass, self.old, at)
+        let at = 8 * place + self.old_mask + 1;
+        if word == VALUE_KIND {
+            return read_stored(self.bank, self.pass, self.o, self.old, at + VALUE_KIND).0;
+        }
+        if word == VALUE {
+            return read_stored(self.bank, self.pass, self.o, self.old, at + VALUE_KIND).1;
+        }
+        self.bank.read_table(self.pass, self.old, at + word)
     }
 
-    ghost room_stays = { λ before after access gave. ap (λ mask. dict_room mask) gave.old_mask };
+    ghost room_stays = { λ before after access gave. λ i. rows (kind_in (shape_of (gave.bank i).now).starts (gave.o i))
+        (class_of (table_id (gave.old i))) };
 }

@@ -5,7 +5,7 @@ ghost use Rattle.ft_model.specs.declared.content.Content.{Content};
 ghost use Rattle.ft_model.specs.Classes.{IsClass};
 ghost use Rattle.ft_model.specs.Worlds.{kind_of, length_of, serial_of};
 ghost use Rattle.ft_layout.specs.Words.{FitsKey, FitsStored};
-ghost use Rattle.ft_trace.specs.Holds.{held_words, known_state};
+ghost use Rattle.ft_trace.specs.Holds.{held_unboxed, known_state};
 ghost use Rattle.ft_trace.specs.ContainerStates.{kind_in};
 ghost use Rattle.ft_bank.specs.declared.table.Table.{Table};
 ghost use Rattle.ft_bank.specs.KeyHashes.{IsKeyIn};
@@ -83,9 +83,9 @@ fn add_here(
     requires key { IsKeyIn (shape_of bank.now) key }
     requires fits { FitsKey key }
     requires slot { (t : Table) → old ≡ Some t →
-        IsFreeFor (shape_of bank.now).texts way t.class key (held_words o (view pass.old)).table slot }
+        IsFreeFor (shape_of bank.now).texts way t.class key (held_unboxed o (view pass.old)).table slot }
     requires absent { IsHeldAt (known_state o (view pass.old)).content key None }
-    requires counts { AreCounts (held_words o (view pass.old)).block counts }
+    requires counts { AreCounts (held_unboxed o (view pass.old)).block counts }
     requires few { counts.count < most_of (known_state o (view pass.old)).content }
     requires serials { serial_of (known_state o (view pass.old)).content < 2 ^ 63 }
     requires stores { StoresAs (kind_by way) stored }
@@ -132,14 +132,15 @@ fn add_in_taken(
     requires key { IsKeyIn (shape_of bank.now) key }
     requires fits { FitsKey key }
     requires absent { IsHeldAt (known_state o (view pass.old)).content key None }
-    requires counts { AreCounts (held_words o (view pass.old)).block counts }
+    requires counts { AreCounts (held_unboxed o (view pass.old)).block counts }
     requires few { counts.count < most_of (known_state o (view pass.old)).content }
     requires serials { serial_of (known_state o (view pass.old)).content < 2 ^ 63 }
     requires stores { StoresAs (kind_by way) stored }
     requires value { FitsStored stored }
     requires adds { AddsKey o called.now said.now key stored (view pass.old) }
     requires class { IsClass class }
-    requires takes { key_takes (known_state o (view pass.old)).content (known_state o (view pass.old)).table ≡ Some class }
+    requires takes { key_takes (known_state o (view pass.old)).content (known_state o (view pass.old)).table
+        ≡ Some class }
     ensures pass { IsPassOf bank.now pass.new }
     ensures stack { stack_of pass.new ≡ stack_of pass.old }
     ensures added { IsAdded (shape_of bank.now) (Some class) false called.now said.now (view pass.old) (view pass.new)
@@ -189,7 +190,7 @@ pub fn add_key(
     requires key { IsKeyIn (shape_of bank.now) key }
     requires fits { FitsKey key }
     requires slot { (t : Table) → old ≡ Some t →
-        IsFreeFor (shape_of bank.now).texts way t.class key (held_words o (view pass.old)).table slot }
+        IsFreeFor (shape_of bank.now).texts way t.class key (held_unboxed o (view pass.old)).table slot }
     requires absent { IsHeldAt (known_state o (view pass.old)).content key None }
     requires serials { serial_of (known_state o (view pass.old)).content < 2 ^ 63 }
     requires stores { StoresAs (kind_by way) stored }

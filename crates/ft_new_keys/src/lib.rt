@@ -12,7 +12,7 @@ mod room;
 
 pub use crate::counts::{COUNT, Counts, FILL, NEXT, read_counts};
 pub use crate::filling::{blank, fill};
-pub use crate::fresh::FreshWords;
-pub use crate::growth::begin_in;
+pub use crate::fresh::{FreshWords, read_stored};
+pub use crate::growth::{begin_in, drop_old};
 pub use crate::keys::{add_key, class_wanted, most_keys};
 pub use crate::placing::{put_counts, put_key};

@@ -3,13 +3,14 @@ ghost use Rattle.std.specs.Prelude.{◌≡◌, ◌+◌, ◌^◌, ◌<◌, Some, 
 ghost use Rattle.ft_model.specs.Worlds.{serial_of};
 ghost use Rattle.ft_layout.specs.Words.{FitsKey, FitsStored};
 ghost use Rattle.ft_trace.specs.Addresses.{class_of};
-ghost use Rattle.ft_trace.specs.Holds.{held_words, known_state};
+ghost use Rattle.ft_trace.specs.Holds.{held_unboxed, known_state};
 ghost use Rattle.ft_trace.specs.Kinds.{rows};
 ghost use Rattle.ft_trace.specs.Pictures.{root_in};
 ghost use Rattle.ft_trace.specs.ContainerStates.{kind_in};
 ghost use Rattle.ft_bank.specs.KeyHashes.{IsKeyIn};
 ghost use Rattle.ft_bank.specs.Passes.{shape_of, view, IsPassOf};
 ghost use Rattle.ft_bank.specs.PassSections.{stack_of};
+ghost use Rattle.ft_bank.specs.SameBoxes.{SameReferences};
 ghost use Rattle.ft_bank.specs.TableNames.{table_id};
 ghost use Rattle.ft_bank.specs.Whole.{Wrote};
 ghost use Rattle.ft_search.specs.Held.{IsHeldAt};
@@ -50,9 +51,10 @@ pub(crate) fn add_in_room(
     requires table { HasTable (shape_of bank.now) o table (view pass.old) }
     requires key { IsKeyIn (shape_of bank.now) key }
     requires fits { FitsKey key }
-    requires slot { IsFreeFor (shape_of bank.now).texts way table.class key (held_words o (view pass.old)).table slot }
+    requires slot { IsFreeFor (shape_of bank.now).texts way table.class key (held_unboxed o (view pass.old)).table
+        slot }
     requires absent { IsHeldAt (known_state o (view pass.old)).content key None }
-    requires counts { AreCounts (held_words o (view pass.old)).block counts }
+    requires counts { AreCounts (held_unboxed o (view pass.old)).block counts }
     requires room { counts.fill < rows (kind_by way) (class_of (table_id table)) }
     requires few { counts.count < 65536 }
     requires serials { serial_of (known_state o (view pass.old)).content < 2 ^ 63 }
@@ -65,7 +67,8 @@ pub(crate) fn add_in_room(
     ensures pass { IsPassOf bank.now pass.new }
     ensures stack { stack_of pass.new ≡ stack_of pass.old }
     ensures wrote { Wrote called.now said.now result (view pass.old) (view pass.new) }
-    ensures root { root_in (held_words o (view pass.new)) ≡ root_in (held_words o (view pass.old)) }
+    ensures references { SameReferences (view pass.old) (view pass.new) }
+    ensures root { root_in (held_unboxed o (view pass.new)) ≡ root_in (held_unboxed o (view pass.old)) }
 {
     let _ = way;
     versions_change_nothing();

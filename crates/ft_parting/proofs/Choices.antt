@@ -10,15 +10,17 @@ use Rattle.ft_model.specs.declared.script.Kind.TheVariants as kind
 use Rattle.ft_model.specs.Contents.{IsSet, SetContent, elements_from, has_element, those_not_in}
 use Rattle.ft_model.specs.Worlds.{set_of}
 use Rattle.ft_layout.specs.declared.slot.Pair.{Pair}
+use Rattle.ft_layout.specs.declared.slot.Stored.{Stored}
 use Rattle.ft_layout.specs.declared.slot.Stored.TheVariants.{Empty}
 use Rattle.ft_layout.specs.Containers.{class_mask, used_element}
 use Rattle.ft_layout.specs.Tables.{IsSetTable, UsedEntry, hash_of, is_live, set_room}
+use Rattle.ft_layout.specs.Words.{stored_kind}
 use Rattle.ft_keys.specs.TableChanges.{AddsPair}
 use Rattle.ft_keys.specs.declared.walk.Way.TheVariants as way
 use Rattle.ft_trace.specs.declared.Shape.{Shape}
 use Rattle.ft_trace.specs.declared.View.{View}
 use Rattle.ft_trace.specs.Addresses.{class_of, slots}
-use Rattle.ft_trace.specs.Holds.{held_words, in_hand, known_state}
+use Rattle.ft_trace.specs.Holds.{held_unboxed, in_hand, known_state}
 use Rattle.ft_trace.specs.Kinds.{rows}
 use Rattle.ft_trace.specs.Pictures.{ContainerWords, entry_offset, entry_field}
 use Rattle.ft_trace.specs.ContainerStates.{ContainerState}
@@ -26,7 +28,7 @@ use Rattle.ft_bank.specs.declared.table.Table.{Table}
 use Rattle.ft_bank.specs.TableNames.{table_id, IsTableIn}
 use Rattle.ft_search.proofs.Puts.{table_class}
 use Rattle.ft_new_keys.specs.Fresh.{HasZeroWords, IsFilledWith}
-use Rattle.ft_new_keys.proofs.FilledTables.{BlankHolds, blank_table}
+use Rattle.ft_new_keys.proofs.FilledTables.{BlankHolds, blank_table, room_of_way, table_plain}
 use Rattle.ft_parting.specs.Internal.Choosing.{HasChosen, IsChosen, apart_pair, at_serials, chosen, is_apart, serial_at}
 
 -- ---- lists
@@ -153,7 +155,7 @@ module _ (k : Shape) (s : ℕ) (from : Table) (t : ℕ) (table : Table) (first :
       ∙ (chosen_append others first (take place used) (e ∷ [])
       ∙ (ap (λ (b : Bool). placed ++ at_serials first (length placed) (cond b (e ∷ []) [])) out ∙ append-nil placed))
 
-  pub chosen_stays : (z : View) → held_words s z ≡ held_words s v → known_state s z ≡ known_state s v → known_state t z ≡ known_state t v → in_hand (table_id table) z ≡ in_hand (table_id table) v → apart_pair k.texts others e ≡ None → IsChosen k s from t table first start used mine (place + 1) count z
+  pub chosen_stays : (z : View) → held_unboxed s z ≡ held_unboxed s v → known_state s z ≡ known_state s v → known_state t z ≡ known_state t v → in_hand (table_id table) z ≡ in_hand (table_id table) v → apart_pair k.texts others e ≡ None → IsChosen k s from t table first start used mine (place + 1) count z
   chosen_stays z words mine_known other_known hand is =
       let same = next_out (none_apart k.texts others e is) in
       record {
@@ -203,7 +205,7 @@ module _ (k : Shape) (s : ℕ) (from : Table) (t : ℕ) (table : Table) (first :
     chosen_count = let h = c.has.counted in let n = length-append mine placed in let b = c.started in omega (arith, h, n, b)
 
     -- its words were put
-    pub chosen_more : (z : View) (put : Pair) → put.hash ≡ hash_of k.texts e.key → put.key ≡ e.key → put.value ≡ Empty → put.serial ≡ serial_at first (length placed) e.serial → held_words s z ≡ held_words s v → known_state s z ≡ known_state s v → known_state t z ≡ known_state t v
+    pub chosen_more : (z : View) (put : Pair) → put.hash ≡ hash_of k.texts e.key → put.key ≡ e.key → put.value ≡ Empty → put.serial ≡ serial_at first (length placed) e.serial → held_unboxed s z ≡ held_unboxed s v → known_state s z ≡ known_state s v → known_state t z ≡ known_state t v
         → AddsPair way.Set (class_mask (class_of (table_id table))) count put (0 ∷ 0 ∷ in_hand (table_id table) v) (0 ∷ 0 ∷ in_hand (table_id table) z)
         → ((p : ℕ) → entry_field (slots (class_of (table_id table))) (in_hand (table_id table) z) p 0 ≡ entry_field (slots (class_of (table_id table))) (in_hand (table_id table) v) p 0)
         → IsChosen k s from t table first start used mine (place + 1) (count + 1) z
@@ -244,8 +246,8 @@ blank_has holds k table v table_in blank = record {
   versions = λ p less. blank.zeros (entry_offset (slots (class_of (table_id table))) p 0);
 }
 
-pub has_fills : (k : Shape) (table : Table) (v : View) (set : SetContent) (count : ℕ) → IsSet set.next set.elements → HasChosen k table set.elements count v → IsFilledWith k.texts (class_of (table_id table)) (content.Set set) (in_hand (table_id table) v)
-has_fills k table v set count rule has = record {
+pub has_fills : (k : Shape) (table : Table) (v : View) (set : SetContent) (count : ℕ) → IsTableIn k table → IsSet set.next set.elements → HasChosen k table set.elements count v → IsFilledWith k.texts (class_of (table_id table)) (content.Set set) (in_hand (table_id table) v)
+has_fills k table v set count table_in rule has = record {
   says = λ block head. record {
     head = head;
     used = map used_element set.elements;
@@ -254,6 +256,12 @@ has_fills k table v set count rule has = record {
     entries = record { live = all_live set.elements; below = map_each (λ (entry : UsedEntry). entry.serial < set.next) set.elements rule.below };
   };
   versions = has.versions;
+  plain = λ place low.
+      let class = class_of (table_id table) in
+      let all = room_of_way way.Set class (table_class k table table_in) in
+      table_plain _ (set_room (class_mask class)) k.texts class (in_hand (table_id table) v) (map used_element set.elements) has.made
+      (map_each (λ (e : UsedEntry). (stored : Stored) × (e.stored ≡ Some stored) × (stored_kind stored ≢ 4)) set.elements (λ i d few. (Empty, refl, λ z. omega (arith, z))))
+      place (omega (arith, low, all));
 }
   where
     all_live : (es : List Element) → filter is_live (map used_element es) ≡ map used_element es

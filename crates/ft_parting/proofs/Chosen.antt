@@ -21,7 +21,7 @@ use Rattle.ft_layout.proofs.ContentLaws.{stands_for_set}
 use Rattle.ft_trace.specs.declared.Shape.{Shape}
 use Rattle.ft_trace.specs.declared.View.{View}
 use Rattle.ft_trace.specs.Addresses.{class_of}
-use Rattle.ft_trace.specs.Holds.{held_words, known_state}
+use Rattle.ft_trace.specs.Holds.{held_unboxed, known_state}
 use Rattle.ft_trace.specs.Traces.{IsReachable}
 use Rattle.ft_trace.specs.Pictures.{Represents}
 use Rattle.ft_trace.specs.ContainerStates.{kind_in}
@@ -40,22 +40,22 @@ module _ (k : Shape) (t : ℕ) (v : View) (shape : v.shape ≡ k) (possible : �
   abbrev set : SetContent
   set = set_of (known_state t v).content
 
-  pub set_stands : (own : Option Table) → KnowsKeyed k t own v → IsSetWords k.texts (held_words t v).block (0 ∷ 0 ∷ (held_words t v).table) (known_state t v).table.class (known_state t v).table.fill set
+  pub set_stands : (own : Option Table) → KnowsKeyed k t own v → IsSetWords k.texts (held_unboxed t v).block (0 ∷ 0 ∷ (held_unboxed t v).table) (known_state t v).table.class (known_state t v).table.fill set
   set_stands own keyed =
-      let here : Represents k.texts (held_words t v) (record { content = content.Set set; table = (known_state t v).table }) = subst (λ (z : Content). Represents k.texts (held_words t v) (record { content = z; table = (known_state t v).table })) (is_set k v t shape possible keyed.locked is) keyed.stands in
+      let here : Represents k.texts (held_unboxed t v) (record { content = content.Set set; table = (known_state t v).table }) = subst (λ (z : Content). Represents k.texts (held_unboxed t v) (record { content = z; table = (known_state t v).table })) (is_set k v t shape possible keyed.locked is) keyed.stands in
       here
 
-  pub set_words : (table : Table) → KnowsKeyed k t (Some table) v → IsSetWords k.texts (held_words t v).block (0 ∷ 0 ∷ (held_words t v).table) (Some (class_of (table_id table))) (known_state t v).table.fill set
+  pub set_words : (table : Table) → KnowsKeyed k t (Some table) v → IsSetWords k.texts (held_unboxed t v).block (0 ∷ 0 ∷ (held_unboxed t v).table) (Some (class_of (table_id table))) (known_state t v).table.fill set
   set_words table keyed =
-      subst (λ (z : Option ℕ). IsSetWords k.texts (held_words t v).block (0 ∷ 0 ∷ (held_words t v).table) z (known_state t v).table.fill set) (class_known k.texts (held_words t v) (known_state t v) (table_id table) keyed.stands keyed.root) (set_stands (Some table) keyed)
+      subst (λ (z : Option ℕ). IsSetWords k.texts (held_unboxed t v).block (0 ∷ 0 ∷ (held_unboxed t v).table) z (known_state t v).table.fill set) (class_known k.texts (held_unboxed t v) (known_state t v) (table_id table) keyed.stands keyed.root) (set_stands (Some table) keyed)
 
   -- its table's entries
-  pub set_says : (table : Table) → KnowsKeyed k t (Some table) v → (used : List UsedEntry) × IsSetTable k.texts (class_mask (class_of (table_id table))) used (0 ∷ 0 ∷ (held_words t v).table) × (filter is_live used ≡ map used_element set.elements)
+  pub set_says : (table : Table) → KnowsKeyed k t (Some table) v → (used : List UsedEntry) × IsSetTable k.texts (class_mask (class_of (table_id table))) used (0 ∷ 0 ∷ (held_unboxed t v).table) × (filter is_live used ≡ map used_element set.elements)
   set_says table keyed = let says = set_words table keyed in (says.used, says.table, says.entries.live)
 
   -- it is a set, also where it has no table
   pub set_rule : (own : Option Table) → KnowsKeyed k t own v → IsSet set.next set.elements
-  set_rule own keyed = stands_for_set k.texts (held_words t v).block (0 ∷ 0 ∷ (held_words t v).table) (known_state t v).table.class (known_state t v).table.fill set (set_stands own keyed)
+  set_rule own keyed = stands_for_set k.texts (held_unboxed t v).block (0 ∷ 0 ∷ (held_unboxed t v).table) (known_state t v).table.class (known_state t v).table.fill set (set_stands own keyed)
 
   -- where it has none it has no elements
   pub none_there : KnowsKeyed k t None v → set.elements ≡ []

@@ -15,7 +15,7 @@ ghost use Rattle.ft_keys.specs.Ways.{room};
 ghost use Rattle.ft_keys.specs.declared.walk.Way.TheVariants as ways;
 ghost use Rattle.ft_trace.specs.Acts.{stage};
 ghost use Rattle.ft_trace.specs.Addresses.{class_of, slots};
-ghost use Rattle.ft_trace.specs.Holds.{held_words, in_hand, known_state};
+ghost use Rattle.ft_trace.specs.Holds.{held_unboxed, in_hand, known_state};
 ghost use Rattle.ft_trace.specs.Kinds.{rows};
 ghost use Rattle.ft_trace.specs.Pictures.{entry_field};
 ghost use Rattle.ft_trace.specs.ContainerStates.{kind_in};
@@ -140,7 +140,7 @@ fn apart_at(
     ensures stack { stack_of pass.new ≡ stack_of pass.old }
     ensures only { OnlyLoaded (view pass.old) (view pass.new) }
     ensures apart { (used : List UsedEntry) (any : UsedEntry) →
-        IsSetTable (shape_of bank.now).texts (class_mask (class_of (table_id from))) used (0 ∷ 0 ∷ (held_words s (view pass.old)).table) →
+        IsSetTable (shape_of bank.now).texts (class_mask (class_of (table_id from))) used (0 ∷ 0 ∷ (held_unboxed s (view pass.old)).table) →
         place < length used → result ≡ apart_pair (shape_of bank.now).texts
         (set_of (known_state t (view pass.old)).content).elements (slice_index_or used place any) }
     ensures fits { IfSome result (λ pair. FitsStored pair.value) }
@@ -316,7 +316,7 @@ pub(crate) fn fill_parted(
     requires other_set { kind_in (shape_of bank.now).starts t ≡ kind.Set }
     requires keyed { KnowsKeyed (shape_of bank.now) s old (view pass.old) }
     requires other_keyed { KnowsKeyed (shape_of bank.now) t (Some other) (view pass.old) }
-    requires counts { AreCounts (held_words s (view pass.old)).block counts }
+    requires counts { AreCounts (held_unboxed s (view pass.old)).block counts }
     requires others { others ≡ (known_state t (view pass.old)).table.fill }
     requires table { IsTableIn (shape_of bank.now) table }
     requires fresh { stage (table_id table) (view pass.old).log ≡ 1 }

@@ -125,7 +125,7 @@ fn part_in_taken(
                 new,
             );
             let next = counts.next + merge.more;
-            let number = swap_table(bank, pass, merge.o, old, new, count, next, called);
+            let number = swap_table(bank, pass, merge.o, Way::Set, old, new, count, next, called);
             retire_old(bank, pass, old);
             Added::Made(written(number))
         }

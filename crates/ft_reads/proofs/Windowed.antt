@@ -13,6 +13,7 @@ use Rattle.ft_trace.specs.Acts.{view_after, shown}
 use Rattle.ft_trace.specs.Addresses.{container_count}
 use Rattle.ft_trace.specs.LoggedReads.{Between, LookedAtOne, LookedAtBoth}
 use Rattle.ft_trace.specs.Traces.{IsReachable}
+use Rattle.ft_trace.specs.Unboxed.{unboxed}
 use Rattle.ft_trace.specs.Pictures.{ContainerWords, Represents}
 use Rattle.ft_trace.specs.ContainerStates.{kind_in, state_at, reply_in}
 use Rattle.ft_bank.specs.declared.pass.Pass.{Pass}
@@ -27,11 +28,11 @@ use Rattle.ft_search.specs.Lengths.{IsGlanceOf, IsStopped}
 use Rattle.ft_search.specs.KeyLooks.{AreLooks}
 use Rattle.ft_search.proofs.Asking.{may_ask, answered_after}
 use Rattle.ft_search.proofs.Lengths.{IsPlain, between_own}
-use Rattle.ft_search.proofs.Rounding.{looks_append, looks_load}
+use Rattle.ft_search.proofs.Rounding.{looks_append, looks_did}
 use Rattle.ft_search.proofs.Running.{did_log, did_trans}
 use Rattle.ft_reads.specs.Reads.{Reads}
 use Rattle.ft_reads.specs.Pairs.{IsGlanceOfBoth, ReadsBoth}
-use Rattle.ft_reads.proofs.Agreeing.{agrees_newer, agrees_older}
+use Rattle.ft_reads.proofs.Agreeing.{read_newer, read_older}
 use Rattle.ft_reads.specs.declared.window.Window.{Window}
 use Rattle.ft_reads.specs.Glances.{HasMoved, WasStill, LoadedSome, Saw, SawBoth}
 
@@ -76,7 +77,7 @@ module _ (k : Shape) (o : ℕ) (shows : ContainerWords → Type 0) (w : Window) 
   counted = record { newer = Version o w.closed ∷ []; rest = part ++ Version o w.opened ∷ []; is = refl; none = refl }
 
   pub saw_loaded : OnlyLoaded (view p) (view q)
-  saw_loaded = subst (OnlyLoaded (view p)) (sym saw.2.1) (looks_load acts (view p) looks)
+  saw_loaded = looks_did acts p q looks saw.2
 
   -- what is so wherever that is so was loaded
   pub saw_some : (some : ContainerWords → Type 0) → ((x : ContainerWords) → shows x → some x) → LoadedSome k o some (view p) (view q)
@@ -85,7 +86,7 @@ module _ (k : Shape) (o : ℕ) (shows : ContainerWords → Type 0) (w : Window) 
     part,
     Version o w.opened ∷ [],
     own ∙ ap (λ (l : List Act). Version o w.closed ∷ (ReadCounter w.number ∷ l)) (append_assoc part (Version o w.opened ∷ []) (view p).log),
-    (λ x agrees. f x (saw.3 x agrees)),
+    (λ x box agrees. f (unboxed box (kind_in k.starts o) x) (saw.3 x box agrees)),
   )
 
   pub saw_stopped : HasMoved w → IsStopped o w.opened w.closed (view p) (view q)
@@ -123,7 +124,7 @@ module _ (k : Shape) (o : ℕ) (shows : ContainerWords → Type 0) (w : Window) 
       between = between_own o (ReadCounter w.number ∷ part) acts (view p).log (view q).log own
           (record { version = w.opened; even = still.1; newer = []; rest = []; is = λ d. Version o (still.0 d) ∷ ((ReadCounter w.number ∷ part) ++ Version o w.opened ∷ []) });
       stamp = record { newer = []; rest = part; is = refl };
-      answers = λ x stored kind_is stands agrees. replied x stored kind_is stands (saw.3 x (agrees_older k o x (ReadCounter w.number ∷ []) part agrees));
+      answers = λ x box stored kind_is stands agrees boxes. replied (unboxed box (kind_in k.starts o) x) stored kind_is stands (saw.3 x box (read_older k o x box (ReadCounter w.number ∷ []) part (agrees, boxes)));
     }
 
     pub saw_shown : WasStill w → (view q).shape ≡ k → o < container_count k → 0 < (view p).left → IsShown (view q) called said w.number
@@ -153,7 +154,7 @@ module _ (k : Shape) (o m : ℕ) (shows : ContainerWords → ContainerWords → 
   both_counted = record { newer = Version o w.closed ∷ (Version m u.closed ∷ []); rest = both ++ opens; is = refl; none = refl }
 
   saw_both_loaded : OnlyLoaded (view p) (view q)
-  saw_both_loaded = subst (OnlyLoaded (view p)) (sym saw.2.1) (looks_load both_acts (view p) both_looks)
+  saw_both_loaded = looks_did both_acts p q both_looks saw.2
 
   -- what was done between the loads of the version of each
   abbrev first_mid : List Act
@@ -231,10 +232,10 @@ module _ (k : Shape) (o m : ℕ) (shows : ContainerWords → ContainerWords → 
           other = other_mid;
           between = (between_own o first_mid both_acts (view p).log (view q).log both_own between.0, between_own m other_mid both_acts (view p).log (view q).log both_own between.1);
           stamp = (record { newer = Version m u.closed ∷ []; rest = both ++ Version m u.opened ∷ []; is = refl }, record { newer = []; rest = both; is = refl });
-          answers = λ x y stored kind_is kind_is' stands stands' agrees agrees'.
-              let near = agrees_newer k o x both (Version m u.opened ∷ []) (agrees_older k o x (Version m u.closed ∷ (ReadCounter w.number ∷ [])) (both ++ Version m u.opened ∷ []) agrees) in
-              let far = agrees_older k m y (ReadCounter w.number ∷ []) both agrees' in
-              replied x y stored kind_is kind_is' stands stands' (saw.3 x y near far);
+          answers = λ x y box more stored kind_is kind_is' stands stands' agrees agrees' boxes boxes'.
+              let near = read_newer k o x box both (Version m u.opened ∷ []) (read_older k o x box (Version m u.closed ∷ (ReadCounter w.number ∷ [])) (both ++ Version m u.opened ∷ []) (agrees, boxes)) in
+              let far = read_older k m y more (ReadCounter w.number ∷ []) both (agrees', boxes') in
+              replied (unboxed box (kind_in k.starts o) x) (unboxed more (kind_in k.starts m) y) stored kind_is kind_is' stands stands' (saw.3 x y box more near far);
         }
 
     pub saw_both_shown : WasStill w → WasStill u → (view q).shape ≡ k → o < container_count k → m < container_count k → 0 < (view p).left → IsShown (view q) called said w.number

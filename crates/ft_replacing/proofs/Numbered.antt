@@ -211,4 +211,5 @@ numbered_filled texts class next is_class words pairs given is filled =
             };
           };
       versions = λ place low. numbered_other (slots class) next count words (entry_offset (slots class) place 0) (λ p less e. absurd (omega (arith, e))) ∙ filled.versions place low;
+      plain = λ place low four. filled.plain place low (sym (numbered_other (slots class) next count words (entry_offset (slots class) place 4) (λ p less e. absurd (omega (arith, e)))) ∙ four);
     }

@@ -1,5 +1,6 @@
--- A whole write that puts 0 into a root before the commit and the root of another table after it.
-use Rattle.std.proofs.Common.{◌≡◌, ◌≢◌, ℕ, suc, ◌+◌, ◌<◌, ◌≤◌, le_trans, true, false, cond, sym, ap, ◌∙◌, subst, arith, inr}
+-- A whole write that puts 0 into a root and drops references before the commit, and puts the root of another table after
+-- it.
+use Rattle.std.proofs.Common.{◌≡◌, ◌≢◌, ℕ, suc, ◌+◌, ◌<◌, ◌≤◌, le_trans, true, false, cond, ◌∷◌, sym, ap, ◌∙◌, subst, arith, inr}
 use Rattle.std.specs.Prelude.{◌==◌, max}
 use Rattle.std.proofs.Math.Nat.{le-max_right}
 use mathlib.Core.Logic.{dite}
@@ -11,16 +12,21 @@ use Rattle.ft_trace.specs.declared.Snap.{Snap}
 use Rattle.ft_trace.specs.declared.Shape.{Shape}
 use Rattle.ft_trace.specs.declared.View.{View}
 use Rattle.ft_trace.specs.Acts.{debt, debt_next, is_writing, view_after, seen_writes, shown, stage, stage_next, presence_after_entry}
-use Rattle.ft_trace.specs.Holds.{held_words, known_state}
+use Rattle.ft_trace.specs.Addresses.{container_count}
+use Rattle.ft_trace.specs.Boxes.{references_held}
+use Rattle.ft_trace.specs.Holds.{held_words, held_unboxed, known_state}
 use Rattle.ft_trace.specs.Pictures.{root_in, Represents}
-use Rattle.ft_trace.specs.ContainerStates.{changes}
+use Rattle.ft_trace.specs.ContainerStates.{changes, kind_in, kinds_in}
 use Rattle.ft_trace.proofs.Cases.{hit, miss}
 use Rattle.ft_trace.proofs.Untouched.{untouched_in}
-use Rattle.ft_bank.specs.Whole.{OnlyPut, Wrote}
+use Rattle.ft_bank.specs.SameBoxes.{LosesReferences, MovesReferences, named_in_words}
+use Rattle.ft_bank.specs.Whole.{OnlyPut, OnlyWritten, Wrote, write_entry}
 use Rattle.ft_bank.specs.WriteSteps.{Committed, KeepsUnwritten}
 use Rattle.ft_bank.proofs.KnownAfterWrites.{work_knows}
 
-module _ (called : Call) (said : Reply) (number f t g : ℕ) (snap : Snap) (v u : View) where
+-- The pass knew v; it made the version of a container odd, put 0 into its root, and dropped references: then it knows d.
+-- After the commit it put the root of the table t, and words: then it knows u.
+module _ (called : Call) (said : Reply) (number f t g : ℕ) (snap : Snap) (v d u : View) where
   abbrev at : ℕ
   at = changes called
 
@@ -34,7 +40,7 @@ module _ (called : Call) (said : Reply) (number f t g : ℕ) (snap : Snap) (v u 
   bare = view_after (PutRoot at 0 old) begun
 
   abbrev made : View
-  made = view_after (Commit called said number snap) bare
+  made = view_after (Commit called said number snap) d
 
   abbrev rooted : View
   rooted = view_after (PutRoot at (suc t) 0) made
@@ -42,17 +48,14 @@ module _ (called : Call) (said : Reply) (number f t g : ℕ) (snap : Snap) (v u 
   abbrev done : View
   done = view_after (StopWrite at g) u
 
-  others_start : (p : ℕ) → p ≢ at → is_writing p rooted.log ≡ is_writing p v.log
+  others_start : (p : ℕ) → p ≢ at → is_writing p bare.log ≡ is_writing p v.log
   others_start p ne = miss at p true (is_writing p v.log) (λ e. ne (sym e))
 
-  all_write : is_writing at v.log ≡ false → OnlyPut at rooted u → (p : ℕ) → is_writing p done.log ≡ is_writing p v.log
-  all_write quiet puts p =
+  all_write : is_writing at v.log ≡ false → OnlyWritten at bare d → OnlyPut at rooted u → (p : ℕ) → is_writing p done.log ≡ is_writing p v.log
+  all_write quiet drops puts p =
       dite (ℕ_discrete p at)
       (λ (e : p ≡ at). subst (λ (q : ℕ). is_writing q done.log ≡ is_writing q v.log) (sym e) (hit at false (is_writing at u.log) ∙ sym quiet))
-      (λ ne. miss at p false (is_writing p u.log) (λ e. ne (sym e)) ∙ (puts.work.pass.writes p ∙ others_start p ne))
-
-  no_name : 0 ≢ suc t
-  no_name e = absurd (omega (arith, e))
+      (λ ne. miss at p false (is_writing p u.log) (λ e. ne (sym e)) ∙ (puts.work.pass.writes p ∙ (drops.work.pass.writes p ∙ others_start p ne)))
 
   -- the table is in the pass's hand or in none, as if the root had been put once
   hand_once : (q : ℕ) → old ≢ suc t → stage_next q (PutRoot at (suc t) 0) (stage_next q (PutRoot at 0 old) (stage q v.log)) ≡ cond (old == suc t) (stage q v.log) (stage_next q (PutRoot at (suc t) old) (stage q v.log))
@@ -68,73 +71,100 @@ module _ (called : Call) (said : Reply) (number f t g : ℕ) (snap : Snap) (v u 
       let n = debt_next (PutRoot at 0 old) (debt v.log) in
       hit 0 n (n + 1) ∙ sym (miss old (suc t) (debt v.log) (debt_next (PutRoot at (suc t) old) (debt v.log)) new)
 
-  swapped_at : is_writing at v.log ≡ false → old ≢ suc t → seen_writes bare ≤ number → 0 < v.left → KeepsUnwritten begun bare → Committed bare made called → KeepsUnwritten made rooted → OnlyPut at rooted u → root_in (held_words at u) ≡ suc t → Represents u.shape.texts (held_words at u) (known_state at u) → Wrote called said number v done
-  swapped_at quiet new low some keeps committed kept puts root stands =
+  -- how many values name the box
+  abbrev names : ℕ → View → ℕ
+  names b w = named_in_words b (kind_in w.shape.starts at) (held_words at w)
+
+  swapped_loses : MovesReferences at begun bare → OnlyWritten at bare d → MovesReferences at made rooted → OnlyPut at rooted u → LosesReferences at v done
+  swapped_loses moves drops moved puts b =
+      let one : references_held d.shape b d.log + names b d ≤ references_held v.shape b v.log + names b v = subst (λ (m : ℕ). references_held d.shape b d.log + names b d ≤ m) (moves b) (drops.loses b) in
+      let two : references_held rooted.shape b rooted.log + names b rooted ≡ references_held d.shape b d.log + names b d = moved b in
+      let three : references_held done.shape b done.log + names b done ≡ references_held rooted.shape b rooted.log + names b rooted = puts.moves b in
+      omega (arith, one, two, three)
+
+  swapped_at : is_writing at v.log ≡ false → old ≢ suc t → seen_writes d ≤ number → 0 < v.left → KeepsUnwritten begun bare → MovesReferences at begun bare → OnlyWritten at bare d → Committed d made called → KeepsUnwritten made rooted → MovesReferences at made rooted → OnlyPut at rooted u → root_in (held_words at u) ≡ suc t → Represents u.shape.texts (held_unboxed at u) (known_state at u) → Wrote called said number v done
+  swapped_at quiet new low some keeps moves drops committed kept moved puts root stands =
+      let w0 = drops.work in
+      let p0 = w0.pass in
       let w1 = puts.work in
       let p1 = w1.pass in
-      let shows_it : number < seen_writes u = let shown_at = le_trans (le-max_right (shown bare.log) (number + 1)) (le-max_right bare.learnt (max (shown bare.log) (number + 1))) in let up = le_trans shown_at p1.seen in omega (arith, up) in
+      let shape : u.shape ≡ v.shape = p1.shape ∙ p0.shape in
+      let inside : (p : ℕ) → p < container_count v.shape → p < container_count d.shape = λ p below. subst (λ (k : Shape). p < container_count k) (sym p0.shape) below in
+      let shows_it : number < seen_writes u = let shown_at = le_trans (le-max_right (shown d.log) (number + 1)) (le-max_right d.learnt (max (shown d.log) (number + 1))) in let up = le_trans shown_at p1.seen in omega (arith, up) in
+      let low_v : seen_writes v ≤ number = le_trans p0.seen low in
       record {
         pass = record {
-          number = p1.number;
-          next = p1.next;
-          parts = p1.parts;
-          shape = p1.shape;
-          locks = p1.locks;
-          writes = all_write quiet puts;
-          announced = p1.announced;
-          flight = p1.flight;
-          begun = p1.begun;
-          cursors = p1.cursors;
-          tokens = p1.tokens;
-          learnt = p1.learnt;
-          lists = p1.lists;
-          floor = p1.floor;
-          since = p1.since;
-          owners = record { had = p1.owners.had; found = p1.owners.found };
-          seen = omega (arith, low, shows_it);
-          grown = λ old was. inr (p1.grown old (inr (inr (inr (inr was)))));
-          stays_online = λ is. p1.stays_online (ap presence_after_entry is);
+          number = p1.number ∙ p0.number;
+          next = p1.next ∙ p0.next;
+          parts = p1.parts ∙ p0.parts;
+          shape = shape;
+          locks = λ p. p1.locks p ∙ p0.locks p;
+          writes = all_write quiet drops puts;
+          announced = p1.announced ∙ p0.announced;
+          flight = p1.flight ∙ p0.flight;
+          begun = p1.begun ∙ p0.begun;
+          cursors = λ n. p1.cursors n ∙ p0.cursors n;
+          tokens = p1.tokens ∙ p0.tokens;
+          learnt = p1.learnt ∙ p0.learnt;
+          lists = p1.lists ∙ p0.lists;
+          floor = p1.floor ∙ p0.floor;
+          since = p1.since ∙ p0.since;
+          owners = record { had = p1.owners.had ∙ p0.owners.had; found = p1.owners.found ∙ p0.owners.found };
+          seen = omega (arith, low_v, shows_it);
+          grown = λ old was. inr (p1.grown old (inr (inr (p0.grown old (inr (inr was))))));
+          stays_online = λ is. p1.stays_online (ap presence_after_entry (p0.stays_online is));
         };
-        seen = low;
+        seen = low_v;
         shows = shows_it;
-        left = let l = w1.left in omega (arith, l, some);
-        entries = w1.entries;
+        left = let l = w1.left in let m = w0.left in omega (arith, l, m, some);
+        entries = w1.entries ∙ ap (λ es. write_entry called said number ∷ es) w0.entries;
         hands = λ q.
             w1.hands q
+            ∙ (ap (stage_next q (PutRoot at (suc t) 0)) (w0.hands q)
             ∙ (hand_once q new
-            ∙ sym (ap (λ (z : ℕ). cond (old == z) (stage q v.log) (stage_next q (PutRoot at z old) (stage q v.log))) root));
-        debt = w1.debt ∙ (debt_once new ∙ sym (ap (λ (z : ℕ). cond (old == z) (debt v.log) (debt_next (PutRoot at z old) (debt v.log))) root));
+            ∙ sym (ap (λ (z : ℕ). cond (old == z) (stage q v.log) (stage_next q (PutRoot at z old) (stage q v.log))) root)));
+        debt = w1.debt ∙ (ap (debt_next (PutRoot at (suc t) 0)) w0.debt ∙ (debt_once new ∙ sym (ap (λ (z : ℕ). cond (old == z) (debt v.log) (debt_next (PutRoot at z old) (debt v.log))) root)));
         used = w1.used ∙ hit 0 false true;
         owes = w1.owes;
+        tables = w1.tables ∙ w0.tables;
+        made = record { state = λ b. puts.made.state b ∙ drops.made.state b; local = λ b. puts.made.local b ∙ drops.made.local b; taken = λ b. puts.made.taken b ∙ drops.made.taken b; places = λ b. puts.made.places b ∙ drops.made.places b };
+        loses = swapped_loses moves drops moved puts;
         others = λ p below ne mine still.
-            let quiet_p = others_start p ne ∙ still in (
-              puts.others p below ne mine quiet_p ∙ ((kept p below mine quiet_p).0 ∙ (keeps p below mine quiet_p).0),
-              work_knows rooted u p w1 ∙ (committed.left p ∙ (untouched_in committed.found called p (λ e. ne (sym e)) ∙ committed.has.agrees p below mine)),
+            let quiet_p = others_start p ne ∙ still in
+            let mine_d = p0.locks p ∙ mine in
+            let quiet_d = p0.writes p ∙ quiet_p in
+            let put = puts.others p (inside p below) ne mine_d quiet_d in
+            let root_put = kept p (inside p below) mine_d quiet_d in
+            let dropped = drops.others p below ne mine quiet_p in
+            let root_out = keeps p below mine quiet_p in (
+              put.0 ∙ (root_put.0 ∙ (dropped.0 ∙ root_out.0)),
+              work_knows rooted u p w1 ∙ (committed.left p ∙ (untouched_in committed.found called p (λ e. ne (sym e)) ∙ (committed.has.agrees p (inside p below) mine_d ∙ work_knows bare d p w0))),
+              put.1 ∙ (root_put.2 ∙ (dropped.1 ∙ root_out.2)),
             );
         found = committed.found;
         has = record {
-          agrees = committed.has.agrees;
-          containers = committed.has.containers;
-          kinds = committed.has.kinds;
+          agrees = λ p below mine. committed.has.agrees p (inside p below) (p0.locks p ∙ mine) ∙ work_knows bare d p w0;
+          containers = committed.has.containers ∙ ap container_count p0.shape;
+          kinds = committed.has.kinds ∙ ap (λ (k : Shape). kinds_in k.starts) p0.shape;
           order = committed.has.order;
           unsplit = committed.has.unsplit;
           words = committed.has.words;
         };
         content = work_knows rooted u at w1 ∙ committed.left at;
-        stands = subst (λ (k : Shape). Represents k.texts (held_words at u) (known_state at u)) p1.shape stands;
+        stands = subst (λ (k : Shape). Represents k.texts (held_unboxed at u) (known_state at u)) shape stands;
       }
 
-  pub swapped_write : (s r c z w : View) → s ≡ begun → r ≡ bare → c ≡ view_after (Commit called said number snap) r → z ≡ view_after (PutRoot at (suc t) 0) c → w ≡ done → is_writing at v.log ≡ false → old ≢ suc t → seen_writes r ≤ number → 0 < v.left → KeepsUnwritten s r → Committed r c called → KeepsUnwritten c z → OnlyPut at z u → root_in (held_words at u) ≡ suc t → Represents u.shape.texts (held_words at u) (known_state at u) → Wrote called said number v w
-  swapped_write s r c z w s_is r_is c_is z_is w_is quiet new low some keeps committed kept puts root stands =
-      let c_at : c ≡ made = c_is ∙ ap (view_after (Commit called said number snap)) r_is in
-      let z_at : z ≡ rooted = z_is ∙ ap (view_after (PutRoot at (suc t) 0)) c_at in
+  pub swapped_write : (s r c z w : View) → s ≡ begun → r ≡ bare → c ≡ made → z ≡ view_after (PutRoot at (suc t) 0) c → w ≡ done → is_writing at v.log ≡ false → old ≢ suc t → seen_writes d ≤ number → 0 < v.left → KeepsUnwritten s r → MovesReferences at s r → OnlyWritten at r d → Committed d c called → KeepsUnwritten c z → MovesReferences at c z → OnlyPut at z u → root_in (held_words at u) ≡ suc t → Represents u.shape.texts (held_unboxed at u) (known_state at u) → Wrote called said number v w
+  swapped_write s r c z w s_is r_is c_is z_is w_is quiet new low some keeps moves drops committed kept moved puts root stands =
+      let z_at : z ≡ rooted = z_is ∙ ap (view_after (PutRoot at (suc t) 0)) c_is in
       subst (Wrote called said number v) (sym w_is)
-      (swapped_at quiet new
-      (subst (λ (y : View). seen_writes y ≤ number) r_is low)
-      some
+      (swapped_at quiet new low some
       (subst (λ (y : View × View). KeepsUnwritten y.0 y.1) (λ i. (s_is i, r_is i)) keeps)
-      (subst (λ (y : View × View). Committed y.0 y.1 called) (λ i. (r_is i, c_at i)) committed)
-      (subst (λ (y : View × View). KeepsUnwritten y.0 y.1) (λ i. (c_at i, z_at i)) kept)
+      (subst (λ (y : View × View). MovesReferences at y.0 y.1) (λ i. (s_is i, r_is i)) moves)
+      (subst (λ (y : View). OnlyWritten at y d) r_is drops)
+      (subst (λ (y : View). Committed d y called) c_is committed)
+      (subst (λ (y : View × View). KeepsUnwritten y.0 y.1) (λ i. (c_is i, z_at i)) kept)
+      (subst (λ (y : View × View). MovesReferences at y.0 y.1) (λ i. (c_is i, z_at i)) moved)
       (subst (λ (y : View). OnlyPut at y u) z_at puts)
       root
       stands)

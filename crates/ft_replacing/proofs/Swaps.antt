@@ -1,7 +1,7 @@
 -- A dict or a set that gets another table in the place of its own: that the roots may be put and the call committed,
 -- and what the words stand for then.
-use Rattle.std.proofs.Common.{◌≡◌, ◌≢◌, ℕ, suc, ◌<◌, ◌≤◌, true, false, true≢false, List, [], ◌∷◌, Option, Some, None, sym, ap, ◌∙◌, subst, arith, length-set, get_or-set_same, get_or-set_other}
-use Rattle.std.specs.Prelude.{is_some, slice_index, slice_set}
+use Rattle.std.proofs.Common.{◌≡◌, ◌≢◌, ℕ, suc, ◌<◌, ◌≤◌, true, false, true≢false, List, [], ◌∷◌, length, Option, Some, None, refl, sym, ap, ◌∙◌, subst, arith, length-set, get_or-set_same, get_or-set_other}
+use Rattle.std.specs.Prelude.{◌==◌, cond, is_some, slice_index, slice_set}
 use Rattle.std.specs.Option.{unwrap_or}
 use Rattle.ft_model.specs.declared.call.Call.{Call}
 use Rattle.ft_model.specs.declared.content.Content.{Content}
@@ -15,9 +15,10 @@ use Rattle.ft_trace.specs.declared.Act.TheVariants.{Commit, PutRoot, StartWrite,
 use Rattle.ft_trace.specs.declared.Shape.{Shape}
 use Rattle.ft_trace.specs.declared.Snap.{Snap}
 use Rattle.ft_trace.specs.declared.View.{View}
-use Rattle.ft_trace.specs.Acts.{has_committed, has_lock, is_writing, mem, view_after, owes, seen_writes, stage}
+use Rattle.ft_trace.specs.Acts.{has_committed, has_lock, is_writing, mem, view_after, owes, seen_writes, stage, stage_next}
 use Rattle.ft_trace.specs.Addresses.{container_count, class_of, size, at, block, cell, IsTableName}
-use Rattle.ft_trace.specs.Holds.{held_words, in_hand, known_state}
+use Rattle.ft_trace.specs.Boxes.{known_box_word, named_in_root, references_held, IsDoneWithBoxes}
+use Rattle.ft_trace.specs.Holds.{held_words, held_unboxed, hand_unboxed, in_hand, known_state}
 use Rattle.ft_trace.specs.Kinds.{IsKeyed, rows, version_at, SoundAs}
 use Rattle.ft_trace.specs.OddVersions.{Shut}
 use Rattle.ft_trace.specs.Traces.{IsReachable}
@@ -29,16 +30,22 @@ use Rattle.ft_trace.proofs.DictWrites.{FirstEntriesArePairs}
 use Rattle.ft_trace.proofs.Pieces.{table_same}
 use Rattle.ft_trace.proofs.SetKnown.{FirstEntriesAreElements}
 use Rattle.ft_bank.specs.declared.table.Table.{Table}
-use Rattle.ft_bank.specs.TableNames.{table_id}
-use Rattle.ft_bank.specs.Whole.{OnlyPut, Wrote}
-use Rattle.ft_bank.specs.WriteSteps.{Committed, IsShut, KeepsUnwritten, MayCommit, MayHave, MayPutRoot, with_root}
+use Rattle.ft_bank.specs.TableNames.{IsTableIn, root_for, table_id}
+use Rattle.ft_bank.specs.SameBoxes.{MovesReferences, SameMade, SameReferences, named_in_words}
+use Rattle.ft_bank.specs.Whole.{OnlyBoxed, OnlyPut, OnlyWritten, Wrote}
+use Rattle.ft_bank.specs.WriteSteps.{Committed, IsShut, KeepsUnwritten, MayCommit, MayHave, MayPutRoot, with_unboxed_root}
 use Rattle.ft_bank.proofs.TableAddresses.{named}
-use Rattle.ft_bank.proofs.KnownAfterWrites.{work_knows}
+use Rattle.ft_bank.proofs.DoneBoxes.{none_named}
+use Rattle.ft_bank.proofs.KnownAfterWrites.{boxed_written, work_knows}
+use Rattle.ft_bank.proofs.WordsPut.{taken_words}
+use Rattle.ft_table_calls.specs.Dropping.{SharesBoxes}
+use Rattle.ft_table_calls.proofs.Dropped.{hand_same, holds_named, shares_done}
+use Rattle.ft_table_calls.proofs.PlainTables.{ArePlain, plain_named, plain_reads}
 use Rattle.ft_search.proofs.Calling.{plain_replied}
 use Rattle.ft_search.proofs.Changing.{kind_is, shut_known}
-use Rattle.ft_search.proofs.Puts.{keyed_version, table_class}
+use Rattle.ft_search.proofs.Puts.{few_done, keyed_value, keyed_version, table_class}
 use Rattle.ft_new_keys.specs.Fresh.{IsFilledWith}
-use Rattle.ft_new_keys.specs.KeyGrowth.{MayGrowKeyed}
+use Rattle.ft_new_keys.specs.KeyGrowth.{HoldsOld, MayGrowKeyed}
 use Rattle.ft_new_keys.specs.Placing.{counted}
 use Rattle.ft_new_keys.proofs.Keyed.{Heads}
 use Rattle.ft_new_keys.proofs.Placed.{counted_head, kind_shut, use_with}
@@ -67,21 +74,25 @@ hand_stays k o t x ws low table i small =
     (λ e. let same = at_apart k (cell t i) (block o 0) (table, small) (low, omega arith) e in absurd (cc))
 
 -- The pass knew v, where the table is fresh in its hand and has what the container o is to get. It made the version of
--- o odd, and then put 0 into its root: then it knows r.
-pub record Swapping (k : Shape) (o : ℕ) (old : Option Table) (table : Table) (called : Call) (left : Content) (f : ℕ) (v s r : View) : Type 0 where
+-- o odd, put 0 into its root: then it knew r; and dropped the references that its words had: then it knows d.
+pub record Swapping (k : Shape) (o : ℕ) (old : Option Table) (table : Table) (called : Call) (left : Content) (f : ℕ) (v s r d : View) : Type 0 where
   pub first_pair : FirstEntriesArePairs
   pub first_element : FirstEntriesAreElements
   pub heads : Heads
   pub may : MayGrowKeyed k o old table v
   pub shape : v.shape ≡ k
   pub possible : ∥ IsReachable v ∥₁
-  pub other : root_in (held_words o v) ≢ suc (table_id table)
+  pub other : root_in (held_unboxed o v) ≢ suc (table_id table)
   pub kind_is : kind_of left ≡ kind_in k.starts o
   pub filled : IsFilledWith k.texts (class_of (table_id table)) left (in_hand (table_id table) v)
   pub replaces : Replaces o called left (Some (class_of (table_id table))) v
   pub started : s ≡ view_after (StartWrite o f) v
   pub rooted : r ≡ view_after (PutRoot o 0 (root_in (held_words o s))) s
-  pub root_held : held_words o r ≡ with_root (held_words o s) None s
+  pub root_held : held_unboxed o r ≡ with_unboxed_root (held_unboxed o s) o None s
+  pub moves : MovesReferences o s r
+  pub drops : OnlyBoxed r d
+  pub made : SameMade r d
+  pub none : (b : ℕ) → references_held k b d.log ≡ 0
 
 -- 0 may be put into the root
 pub may_put_none : (k : Shape) (o : ℕ) (old : Option Table) (table : Table) (v s : View) (f : ℕ) → v.shape ≡ k → ∥ IsReachable v ∥₁ → MayGrowKeyed k o old table v → s ≡ view_after (StartWrite o f) v → MayPutRoot s o None
@@ -93,12 +104,74 @@ may_put_none k o old table v s f shape possible may is =
       fresh = λ t e. absurd (true≢false (ap is_some (sym e)));
       sound = λ t e. absurd (true≢false (ap is_some (sym e)));
       young = λ t p e. absurd (true≢false (ap is_some (sym e)));
-      shut = λ t names. subst (λ (z : Kind). Shut (version_at z (class_of t)) (rows z (class_of t)) (held_words o v).table) kind_v (shut_known k v o t shape possible may.keyed.container may.keyed.locked may.keyed.even names);
+      shut = λ t names. subst (λ (z : Kind). Shut (version_at z (class_of t)) (rows z (class_of t)) (held_unboxed o v).table) kind_v (shut_known k v o t shape possible may.keyed.container may.keyed.locked may.keyed.even names);
       spare = λ some_one. may.used;
       early = λ e. hit o false _;
+      references = record {
+        few = few_done k (view_after (StartWrite o f) v) shape (λ b. let d = may.boxes b in (d.0, d.1, d.2, d.3));
+        enough = λ b. omega arith;
+        known = λ b none some_one. absurd (some_one refl);
+      };
     })
 
-module _ (k : Shape) (o : ℕ) (old : Option Table) (table : Table) (called : Call) (left : Content) (f : ℕ) (v s r : View) (e : Swapping k o old table called left f v s r) where
+-- the references that the pass has right after that
+module _ (heads : Heads) (k : Shape) (o : ℕ) (old : Option Table) (table : Table) (f : ℕ) (v s r : View) (shape : v.shape ≡ k) (may : MayGrowKeyed k o old table v) (started : s ≡ view_after (StartWrite o f) v) (rooted : r ≡ view_after (PutRoot o 0 (root_in (held_words o s))) s) (root_held : held_unboxed o r ≡ with_unboxed_root (held_unboxed o s) o None s) (moves : MovesReferences o s r) where
+  shape_started : s.shape ≡ k
+  shape_started = ap (λ (z : View). z.shape) started ∙ shape
+
+  shape_rooted : r.shape ≡ s.shape
+  shape_rooted = ap (λ (z : View). z.shape) rooted
+
+  names_old : root_in (held_words o s) ≡ root_for old
+  names_old = ap (λ (z : View). root_in (held_words o z)) started ∙ may.keyed.root
+
+  done_started : IsDoneWithBoxes k s.log
+  done_started = subst (λ (z : View). IsDoneWithBoxes k z.log) (sym started) (λ b. let d = may.boxes b in (d.0, d.1, d.2, d.3))
+
+  -- no words name a box any longer
+  bare_rooted : root_in (held_words o r) ≡ 0
+  bare_rooted =
+      let size_is = ap (λ (z : View). length (held_unboxed o z).block) started
+      ∙ (heads k.texts (held_unboxed o v).block (0 ∷ 0 ∷ (held_unboxed o v).table) (known_state o v).table (known_state o v).content may.keyed.stands).size in
+      ap root_in root_held ∙ get_or-set_same (held_unboxed o s).block 0 0 0 (omega (arith, size_is))
+
+  names_none : (b : ℕ) → named_in_words b (kind_in r.shape.starts o) (held_words o r) ≡ 0
+  names_none b = none_named b (kind_in r.shape.starts o) (held_words o r) bare_rooted
+
+  pub old_out : (t : Table) → old ≡ Some t → IsTableIn k t × (stage (table_id t) r.log ≡ 3)
+  old_out t is =
+      let name : root_in (held_words o s) ≡ suc (table_id t) = names_old ∙ ap root_for is in
+      let n = stage (table_id t) s.log in (
+        may.keyed.table_in t is,
+        ap (λ (z : View). stage (table_id t) z.log) rooted
+            ∙ (ap (λ (root : ℕ). stage_next (table_id t) (PutRoot o 0 root) n) name
+            ∙ (miss 0 (suc (table_id t)) 0 (cond (suc (table_id t) == suc (table_id t)) 3 n) (λ e. absurd (omega (arith, e))) ∙ hit (suc (table_id t)) 3 n)),
+      )
+
+  pub old_shared : SharesBoxes r
+  old_shared = shares_done k s r done_started (subst (SameMade s) (sym rooted) (record { state = λ b. refl; local = λ b. refl; taken = λ b. refl; places = λ b. refl }))
+
+  pub old_held : HoldsOld k o old r
+  old_held = by old refl
+    where
+      by : (q : Option Table) → old ≡ q → HoldsOld k o q r
+      by None is = λ b.
+          let bare_before = none_named b (kind_in s.shape.starts o) (held_words o s) (names_old ∙ ap root_for is) in
+          let moved = moves b in
+          let after = names_none b in
+          let held = (done_started b).0 in
+          let now : references_held k b r.log ≡ references_held r.shape b r.log = ap (λ (z : Shape). references_held z b r.log) (sym (shape_rooted ∙ shape_started)) in
+          let was : references_held s.shape b s.log ≡ references_held k b s.log = ap (λ (z : Shape). references_held z b s.log) shape_started in
+          omega (arith, bare_before, moved, after, held, now, was)
+      by (Some t) is =
+          let name : root_in (held_words o s) ≡ suc (table_id t) = names_old ∙ ap root_for is in
+          let low = subst (λ (z : Shape). o < container_count z) (sym shape_started) may.keyed.container in
+          let table_name = subst (λ (z : Shape). IsTableName z (table_id t)) (sym shape_started) (named k t (may.keyed.table_in t is)) in
+          holds_named k o (table_id t) s r shape_started shape_rooted done_started moves name
+          (ap (in_hand (table_id t)) rooted ∙ taken_words s o (table_id t) 0 (root_in (held_words o s)) low table_name name)
+          names_none
+
+module _ (k : Shape) (o : ℕ) (old : Option Table) (table : Table) (called : Call) (left : Content) (f : ℕ) (v s r d : View) (e : Swapping k o old table called left f v s r d) where
   abbrev t : ℕ
   t = table_id table
 
@@ -111,14 +184,27 @@ module _ (k : Shape) (o : ℕ) (old : Option Table) (table : Table) (called : Ca
   both_rooted : r ≡ view_after (PutRoot o 0 (root_in (held_words o v))) (view_after (StartWrite o f) v)
   both_rooted = e.rooted ∙ ap (λ (z : View). view_after (PutRoot o 0 (root_in (held_words o z))) z) e.started
 
-  known_then : (p : ℕ) → known_state p r ≡ known_state p v
-  known_then p = ap (λ (z : View). known_state p z) both_rooted
+  shape_bare : r.shape ≡ v.shape
+  shape_bare = ap (λ (z : View). z.shape) both_rooted
 
-  shape_then : r.shape ≡ v.shape
-  shape_then = ap (λ (z : View). z.shape) both_rooted
+  known_then : (p : ℕ) → known_state p d ≡ known_state p v
+  known_then p = work_knows r d p e.drops.work ∙ ap (λ (z : View). known_state p z) both_rooted
 
-  locks_then : (p : ℕ) → has_lock p r.log ≡ has_lock p v.log
-  locks_then p = ap (λ (z : View). has_lock p z.log) both_rooted
+  shape_then : d.shape ≡ v.shape
+  shape_then = e.drops.work.pass.shape ∙ shape_bare
+
+  locks_then : (p : ℕ) → has_lock p d.log ≡ has_lock p v.log
+  locks_then p = e.drops.work.pass.locks p ∙ ap (λ (z : View). has_lock p z.log) both_rooted
+
+  -- what the pass did since the root was put
+  written : OnlyWritten o r d
+  written = boxed_written o r d e.drops e.made (λ b. let none = ap (λ (z : Shape). references_held z b d.log) (shape_then ∙ e.shape) ∙ e.none b in omega (arith, none))
+
+  -- the drops leave what the words read
+  drops_read : held_unboxed o d ≡ held_unboxed o r
+  drops_read =
+      e.drops.unboxed o (subst (λ (z : Shape). o < container_count z) (sym (shape_bare ∙ e.shape)) e.may.keyed.container)
+      (ap (λ (z : View). has_lock o z.log) both_rooted ∙ e.may.keyed.locked)
 
   keyed : IsKeyed (kind_of left)
   keyed = subst IsKeyed (sym e.kind_is) e.may.keyed.keyed
@@ -127,19 +213,19 @@ module _ (k : Shape) (o : ℕ) (old : Option Table) (table : Table) (called : Ca
   is_class = table_class k table e.may.table_in
 
   -- the block before the write
-  old_head : IsBlock (held_words o v).block (known_state o v).table.class (length_of (known_state o v).content) (known_state o v).table.fill (serial_of (known_state o v).content)
-  old_head = e.heads k.texts (held_words o v).block (0 ∷ 0 ∷ (held_words o v).table) (known_state o v).table (known_state o v).content e.may.keyed.stands
+  old_head : IsBlock (held_unboxed o v).block (known_state o v).table.class (length_of (known_state o v).content) (known_state o v).table.fill (serial_of (known_state o v).content)
+  old_head = e.heads k.texts (held_unboxed o v).block (0 ∷ 0 ∷ (held_unboxed o v).table) (known_state o v).table (known_state o v).content e.may.keyed.stands
 
   abbrev b : List ℕ
-  b = slice_set (held_words o v).block 0 0
+  b = slice_set (held_unboxed o v).block 0 0
 
   bare_head : IsBlock b None (length_of (known_state o v).content) (known_state o v).table.fill (serial_of (known_state o v).content)
-  bare_head = no_root (held_words o v).block (known_state o v).table.class (length_of (known_state o v).content) (known_state o v).table.fill (serial_of (known_state o v).content) old_head
+  bare_head = no_root (held_unboxed o v).block (known_state o v).table.class (length_of (known_state o v).content) (known_state o v).table.fill (serial_of (known_state o v).content) old_head
 
-  held_then : held_words o r ≡ record { block = b; table = [] }
-  held_then = e.root_held ∙ ap (λ (z : View). with_root (held_words o z) None z) e.started
+  held_then : held_unboxed o d ≡ record { block = b; table = [] }
+  held_then = drops_read ∙ (e.root_held ∙ ap (λ (z : View). with_unboxed_root (held_unboxed o z) o None z) e.started)
 
-  root_then : root_in (held_words o r) ≡ 0
+  root_then : root_in (held_unboxed o d) ≡ 0
   root_then = ap root_in held_then ∙ bare_head.root
 
   -- and after it
@@ -155,7 +241,7 @@ module _ (k : Shape) (o : ℕ) (old : Option Table) (table : Table) (called : Ca
   says = e.filled.says last last_head
 
   -- the bank may have the same
-  has_before : (stored : StoredWorld) → MayHave r stored → MayHave v stored
+  has_before : (stored : StoredWorld) → MayHave d stored → MayHave v stored
   has_before stored has = record {
     agrees = λ p low mine. has.agrees p (subst (λ (z : Shape). p < container_count z) (sym shape_then) low) (locks_then p ∙ mine) ∙ known_then p;
     containers = has.containers ∙ ap container_count shape_then;
@@ -165,18 +251,18 @@ module _ (k : Shape) (o : ℕ) (old : Option Table) (table : Table) (called : Ca
     words = has.words;
   }
 
-  pub swapping_commits : MayCommit r called reply.Done
+  pub swapping_commits : MayCommit d called reply.Done
   swapping_commits =
       let l = e.replaces in
       let here : o ≡ changes called = sym l.changed in
-      let owed : owes r.log ≡ suc class = ap (λ (z : View). owes z.log) both_rooted ∙ e.may.owed in
-      let odd : is_writing o r.log ≡ true = ap (λ (z : View). is_writing o z.log) both_rooted ∙ hit o true (is_writing o v.log) in
-      let none : root_in (held_words (changes called) r) ≡ 0 = subst (λ (n : ℕ). root_in (held_words n r) ≡ 0) here root_then in
+      let owed : owes d.log ≡ suc class = e.drops.work.owes ∙ (ap (λ (z : View). owes z.log) both_rooted ∙ e.may.owed) in
+      let odd : is_writing o d.log ≡ true = e.drops.work.pass.writes o ∙ (ap (λ (z : View). is_writing o z.log) both_rooted ∙ hit o true (is_writing o v.log)) in
+      let none : root_in (held_unboxed (changes called) d) ≡ 0 = subst (λ (n : ℕ). root_in (held_unboxed n d) ≡ 0) here root_then in
       record {
         write = l.write;
-        container = subst (λ (n : ℕ). n < container_count r.shape) here (subst (λ (z : Shape). o < container_count z) (sym (shape_then ∙ e.shape)) e.may.keyed.container);
-        odd = subst (λ (n : ℕ). is_writing n r.log ≡ true) here odd;
-        left = subst (λ (n : ℕ). 0 < n) (sym (ap (λ (z : View). z.left) both_rooted)) e.may.left;
+        container = subst (λ (n : ℕ). n < container_count d.shape) here (subst (λ (z : Shape). o < container_count z) (sym (shape_then ∙ e.shape)) e.may.keyed.container);
+        odd = subst (λ (n : ℕ). is_writing n d.log ≡ true) here odd;
+        left = subst (λ (n : ℕ). 0 < n) (sym (e.drops.work.left ∙ ap (λ (z : View). z.left) both_rooted)) e.may.left;
         words = l.words;
         locks = λ p x. locks_then p ∙ l.locks p x;
         reply_is = λ stored has. plain_replied called reply.Done _ l.write (l.replied stored (has_before stored has));
@@ -188,41 +274,57 @@ module _ (k : Shape) (o : ℕ) (old : Option Table) (table : Table) (called : Ca
       }
 
   -- after the commit
-  module _ (number : ℕ) (snap : Snap) (c : View) (made : c ≡ view_after (Commit called reply.Done number snap) r) (committed : Committed r c called) where
-    abbrev C : View
-    C = view_after (Commit called reply.Done number snap) (view_after (PutRoot o 0 (root_in (held_words o v))) (view_after (StartWrite o f) v))
-
-    all_made : c ≡ C
-    all_made = made ∙ ap (view_after (Commit called reply.Done number snap)) both_rooted
-
+  module _ (number : ℕ) (snap : Snap) (c : View) (made : c ≡ view_after (Commit called reply.Done number snap) d) (committed : Committed d c called) where
     content_then : (known_state o c).content ≡ left
     content_then = ap (λ (z : ContainerState). z.content) (committed.left o ∙ e.replaces.left_is committed.found (has_before committed.found committed.has))
 
     kept_then : known_state o c ≡ record { content = left; table = replaced_table (Some class) (length_of left) }
     kept_then = committed.left o ∙ e.replaces.left_is committed.found (has_before committed.found committed.has)
 
-    held_c : held_words o c ≡ record { block = b; table = [] }
-    held_c = ap (λ (z : View). held_words o z) made ∙ held_then
+    held_c : held_unboxed o c ≡ record { block = b; table = [] }
+    held_c = ap (λ (z : View). held_unboxed o z) made ∙ held_then
 
     hand_then : in_hand t c ≡ ws
     hand_then =
-        ap (λ (z : View). in_hand t z) all_made
+        ap (λ (z : View). in_hand t z) made
+        ∙ (hand_same r d t e.drops.work.pass.shape e.drops.words
+        ∙ (ap (λ (z : View). in_hand t z) both_rooted
         ∙ table_same v.shape t (slice_set (mem v.shape v.log) (at v.shape (block o 0)) 0) (mem v.shape v.log)
-        (hand_stays v.shape o t 0 (mem v.shape v.log) (subst (λ (z : Shape). o < container_count z) (sym e.shape) e.may.keyed.container) (subst (λ (z : Shape). IsTableName z t) (sym e.shape) (named k table e.may.table_in)))
+        (hand_stays v.shape o t 0 (mem v.shape v.log) (subst (λ (z : Shape). o < container_count z) (sym e.shape) e.may.keyed.container) (subst (λ (z : Shape). IsTableName z t) (sym e.shape) (named k table e.may.table_in)))))
 
     fresh_then : stage t c.log ≡ 1
     fresh_then =
-        ap (λ (z : View). stage t z.log) all_made
-        ∙ (miss 0 (suc t) 0 _ (λ x. absurd (omega (arith, x))) ∙ (miss (root_in (held_words o v)) (suc t) 3 (stage t v.log) e.other ∙ e.may.fresh))
+        ap (λ (z : View). stage t z.log) made
+        ∙ (e.drops.work.hands t
+        ∙ (ap (λ (z : View). stage t z.log) both_rooted
+        ∙ (miss 0 (suc t) 0 _ (λ x. absurd (omega (arith, x))) ∙ (miss (root_in (held_unboxed o v)) (suc t) 3 (stage t v.log) e.other ∙ e.may.fresh))))
+
+    odd_then : is_writing o c.log ≡ true
+    odd_then = ap (λ (z : View). is_writing o z.log) made ∙ (e.drops.work.pass.writes o ∙ (ap (λ (z : View). is_writing o z.log) both_rooted ∙ hit o true (is_writing o v.log)))
 
     shape_c : c.shape ≡ k
-    shape_c = ap (λ (z : View). z.shape) all_made ∙ e.shape
+    shape_c = ap (λ (z : View). z.shape) made ∙ (shape_then ∙ e.shape)
 
     the_one : (q : Table) → Some table ≡ Some q → table ≡ q
     the_one q is = ap (λ (z : Option Table). unwrap_or z table) is
 
     kind_c : kind_of left ≡ kind_in c.shape.starts o
     kind_c = e.kind_is ∙ sym (ap (λ (z : Shape). kind_in z.starts o) shape_c)
+
+    -- its values all stand in place
+    plain_c : ArePlain (kind_in c.shape.starts o) class (in_hand t c) (rows (kind_in c.shape.starts o) class)
+    plain_c =
+        subst (λ (z : Kind × List ℕ). ArePlain z.0 class z.1 (rows z.0 class)) (λ i. (kind_c i, sym hand_then i))
+        (λ p low four. e.filled.plain p low (ap (slice_index ws) (sym (keyed_value (kind_of left) keyed class p)) ∙ four))
+
+    reads_c : hand_unboxed o t c ≡ in_hand t c
+    reads_c = plain_reads (λ n i. known_box_word c.shape n i c.log) (kind_in c.shape.starts o) t (in_hand t c) plain_c
+
+    names_c : (n : ℕ) → named_in_root n (kind_in c.shape.starts o) (suc t) (in_hand t c) ≡ 0
+    names_c n = plain_named n t (kind_in c.shape.starts o) (in_hand t c) plain_c
+
+    held_none : (n : ℕ) → references_held c.shape n c.log ≡ 0
+    held_none n = ap (λ (z : Shape). references_held z n c.log) shape_c ∙ (ap (λ (z : View). references_held k n z.log) made ∙ e.none n)
 
     sound_here : SoundAs (kind_in c.shape.starts o) c.shape.texts class (in_hand t c) (known_state o c).content
     sound_here =
@@ -234,30 +336,41 @@ module _ (k : Shape) (o : ℕ) (old : Option Table) (table : Table) (called : Ca
         subst (λ (z : Kind × List ℕ). (p : ℕ) → p < rows z.0 class → slice_index z.1 (version_at z.0 class p) ≡ 0) (λ i. (kind_c i, sym hand_then i))
         (λ p low. ap (slice_index ws) (keyed_version (kind_of left) keyed class p) ∙ e.filled.versions p low)
 
-    pub root_c : root_in (held_words o c) ≡ 0
+    pub root_c : root_in (held_unboxed o c) ≡ 0
     root_c = ap root_in held_c ∙ bare_head.root
 
     pub may_put_table : MayPutRoot c o (Some table)
     may_put_table = record {
-      odd = ap (λ (z : View). is_writing o z.log) all_made ∙ hit o true (is_writing o v.log);
+      odd = odd_then;
       fresh = λ q is. subst (λ (z : Table). stage (table_id z) c.log ≡ 1) (the_one q is) fresh_then;
-      sound = λ q is. subst (λ (z : Table). SoundAs (kind_in c.shape.starts o) c.shape.texts (class_of (table_id z)) (in_hand (table_id z) c) (known_state o c).content) (the_one q is) sound_here;
+      sound = λ q is.
+          subst (λ (z : Table). SoundAs (kind_in c.shape.starts o) c.shape.texts (class_of (table_id z)) (hand_unboxed o (table_id z) c) (known_state o c).content) (the_one q is)
+          (subst (λ (l : List ℕ). SoundAs (kind_in c.shape.starts o) c.shape.texts class l (known_state o c).content) (sym reads_c) sound_here);
       young = λ q p is row.
-          let zero = subst (λ (z : Table). (p : ℕ) → p < rows (kind_in c.shape.starts o) (class_of (table_id z)) → slice_index (in_hand (table_id z) c) (version_at (kind_in c.shape.starts o) (class_of (table_id z)) p) ≡ 0) (the_one q is) zero_here p row in
+          let here : (n : ℕ) → n < rows (kind_in c.shape.starts o) class → slice_index (hand_unboxed o t c) (version_at (kind_in c.shape.starts o) class n) ≡ 0 = λ n low. ap (λ (l : List ℕ). slice_index l (version_at (kind_in c.shape.starts o) class n)) reads_c ∙ zero_here n low in
+          let zero = subst (λ (z : Table). (n : ℕ) → n < rows (kind_in c.shape.starts o) (class_of (table_id z)) → slice_index (hand_unboxed o (table_id z) c) (version_at (kind_in c.shape.starts o) (class_of (table_id z)) n) ≡ 0) (the_one q is) here p row in
           (omega (arith, zero), (λ late. zero));
       shut = λ q names. let none = root_c in absurd (omega (arith, none, names));
       spare = λ some_one. absurd (some_one root_c);
       early = λ is. absurd (true≢false (ap is_some is));
+      references = record {
+        few = λ n. let none = held_none n in omega (arith, none);
+        enough = λ n. let none = names_c n in omega (arith, none);
+        known = λ n none some_one. absurd (some_one (names_c n));
+      };
     }
 
+    pub odd_rooted : (z : View) → z ≡ view_after (PutRoot o (suc t) (root_in (held_words o c))) c → is_writing o z.log ≡ true
+    odd_rooted z is = ap (λ (y : View). is_writing o y.log) is ∙ odd_then
+
     -- after the root and the counts
-    module _ (z u : View) (rooted : z ≡ view_after (PutRoot o (suc t) (root_in (held_words o c))) c) (root_held : held_words o z ≡ with_root (held_words o c) (Some table) c) (puts : OnlyPut o z u) (count next : ℕ) (count_is : count ≡ length_of left) (next_is : next ≡ serial_of left) (words : held_words o u ≡ record { block = counted (held_words o z).block count count next; table = (held_words o z).table }) where
-      held_u : held_words o u ≡ record { block = last; table = ws }
+    module _ (z u : View) (rooted : z ≡ view_after (PutRoot o (suc t) (root_in (held_words o c))) c) (root_held : held_unboxed o z ≡ with_unboxed_root (held_unboxed o c) o (Some table) c) (puts : OnlyPut o z u) (count next : ℕ) (count_is : count ≡ length_of left) (next_is : next ≡ serial_of left) (words : held_unboxed o u ≡ record { block = counted (held_unboxed o z).block count count next; table = (held_unboxed o z).table }) where
+      held_u : held_unboxed o u ≡ record { block = last; table = ws }
       held_u =
-          let at_z : held_words o z ≡ record { block = slice_set b 0 (suc t); table = ws } = root_held ∙ (λ i. record { block = slice_set (held_c i).block 0 (suc t); table = hand_then i }) in
+          let at_z : held_unboxed o z ≡ record { block = slice_set b 0 (suc t); table = ws } = root_held ∙ (λ i. record { block = slice_set (held_c i).block 0 (suc t); table = (reads_c ∙ hand_then) i }) in
           words ∙ (λ i. record { block = counted (at_z i).block (count_is i) (count_is i) (next_is i); table = (at_z i).table })
 
-      pub root_u : root_in (held_words o u) ≡ suc t
+      pub root_u : root_in (held_unboxed o u) ≡ suc t
       root_u = ap root_in held_u ∙ (let n = (rooted_names last last_head) in n)
         where
           rooted_names : (l : List ℕ) → IsBlock l (Some class) (length_of left) (length_of left) (serial_of left) → slice_index last 0 ≡ suc t
@@ -273,7 +386,7 @@ module _ (k : Shape) (o : ℕ) (old : Option Table) (table : Table) (called : Ca
       known_u : known_state o u ≡ record { content = left; table = replaced_table (Some class) (length_of left) }
       known_u = work_knows z u o puts.work ∙ (ap (λ (y : View). known_state o y) rooted ∙ kept_then)
 
-      pub stands_u : Represents k.texts (held_words o u) (known_state o u)
+      pub stands_u : Represents k.texts (held_unboxed o u) (known_state o u)
       stands_u = subst (λ (y : ContainerWords × ContainerState). Represents k.texts y.0 y.1) (λ i. (sym held_u i, sym known_u i)) says
 
       shape_u : u.shape ≡ k
@@ -288,22 +401,30 @@ module _ (k : Shape) (o : ℕ) (old : Option Table) (table : Table) (called : Ca
           subst (λ (y : Kind × ℕ × List ℕ). Shut (version_at y.0 (class_of y.1)) (rows y.0 (class_of y.1)) y.2) (λ i. (kind_u i, same i, (sym held_u i).table))
           (kind_shut (kind_of left) keyed class (rows (kind_of left) class) ws (λ p low. let zero = e.filled.versions p low in omega (arith, zero)))
 
-      all_rooted : z ≡ view_after (PutRoot o (suc t) (root_in (held_words o c))) C
-      all_rooted = rooted ∙ ap (view_after (PutRoot o (suc t) (root_in (held_words o c)))) all_made
-
       pub odd_u : is_writing o u.log ≡ true
-      odd_u = puts.work.pass.writes o ∙ (ap (λ (y : View). is_writing o y.log) all_rooted ∙ hit o true (is_writing o v.log))
+      odd_u = puts.work.pass.writes o ∙ odd_rooted z rooted
 
       pub committed_u : has_committed o u.log ≡ true
-      committed_u = puts.work.committed o ∙ ap (λ (y : View). has_committed o y.log) all_rooted
+      committed_u = puts.work.committed o ∙ (ap (λ (y : View). has_committed o y.log) rooted ∙ ap (λ (y : View). has_committed o y.log) made)
 
       -- the whole write
-      module _ (g : ℕ) (w : View) (keeps : KeepsUnwritten s r) (kept : KeepsUnwritten c z) (seen : seen_writes r ≤ number) (stopped : w ≡ view_after (StopWrite o g) u) where
+      module _ (g : ℕ) (w : View) (keeps : KeepsUnwritten s r) (kept : KeepsUnwritten c z) (moved : MovesReferences o c z) (seen : seen_writes d ≤ number) (stopped : w ≡ view_after (StopWrite o g) u) where
         pub swapping_wrote : Wrote called reply.Done number v w
         swapping_wrote =
             subst
-            (λ (n : ℕ). s ≡ view_after (StartWrite n f) v → r ≡ view_after (PutRoot n 0 (root_in (held_words n v))) (view_after (StartWrite n f) v) → z ≡ view_after (PutRoot n (suc t) 0) c → w ≡ view_after (StopWrite n g) u → is_writing n v.log ≡ false → root_in (held_words n v) ≢ suc t → OnlyPut n z u → root_in (held_words n u) ≡ suc t → Represents u.shape.texts (held_words n u) (known_state n u) → Wrote called reply.Done number v w)
+            (λ (n : ℕ). s ≡ view_after (StartWrite n f) v → r ≡ view_after (PutRoot n 0 (root_in (held_words n v))) (view_after (StartWrite n f) v) → z ≡ view_after (PutRoot n (suc t) 0) c → w ≡ view_after (StopWrite n g) u → is_writing n v.log ≡ false → root_in (held_words n v) ≢ suc t → MovesReferences n s r → OnlyWritten n r d → MovesReferences n c z → OnlyPut n z u → root_in (held_words n u) ≡ suc t → Represents u.shape.texts (held_unboxed n u) (known_state n u) → Wrote called reply.Done number v w)
             e.replaces.changed
-            (λ s_is r_is z_is w_is quiet new puts_at root stands. swapped_write called reply.Done number f t g snap v u s r c z w s_is r_is made z_is w_is quiet new seen e.may.left keeps committed kept puts_at root stands)
-            e.started both_rooted (rooted ∙ ap (λ (x : ℕ). view_after (PutRoot o (suc t) x) c) root_c) stopped e.may.keyed.even e.other puts root_u
-            (subst (λ (y : Shape). Represents y.texts (held_words o u) (known_state o u)) (sym shape_u) stands_u)
+            (λ s_is r_is z_is w_is quiet new moves_at drops_at moved_at puts_at root stands. swapped_write called reply.Done number f t g snap v d u s r c z w s_is r_is made z_is w_is quiet new seen e.may.left keeps moves_at drops_at committed kept moved_at puts_at root stands)
+            e.started both_rooted (rooted ∙ ap (λ (x : ℕ). view_after (PutRoot o (suc t) x) c) root_c) stopped e.may.keyed.even e.other e.moves written moved puts root_u
+            (subst (λ (y : Shape). Represents y.texts (held_unboxed o u) (known_state o u)) (sym shape_u) stands_u)
+
+        -- the pass holds no references, as before
+        pub swapping_references : SameReferences v w
+        swapping_references n =
+            let none_c = held_none n in
+            let bare : named_in_words n (kind_in c.shape.starts o) (held_words o c) ≡ 0 = none_named n (kind_in c.shape.starts o) (held_words o c) root_c in
+            let one = moved n in
+            let two = puts.moves n in
+            let none_u : references_held u.shape n u.log ≡ 0 = omega (arith, none_c, bare, one, two) in
+            let before : references_held v.shape n v.log ≡ 0 = ap (λ (y : Shape). references_held y n v.log) e.shape ∙ (e.may.boxes n).0 in
+            ap (λ (y : View). references_held y.shape n y.log) stopped ∙ (none_u ∙ sym before)

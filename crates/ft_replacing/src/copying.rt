@@ -9,7 +9,7 @@ ghost use Rattle.ft_model.specs.TableUses.{copy_takes};
 ghost use Rattle.ft_model.specs.Worlds.{length_of, serial_of};
 ghost use Rattle.ft_trace.specs.Acts.{flight, stage, used};
 ghost use Rattle.ft_trace.specs.Addresses.{class_of};
-ghost use Rattle.ft_trace.specs.Holds.{held_words, in_hand, known_state};
+ghost use Rattle.ft_trace.specs.Holds.{held_unboxed, in_hand, known_state};
 ghost use Rattle.ft_trace.specs.Kinds.{rows};
 ghost use Rattle.ft_trace.specs.ContainerStates.{kind_in};
 ghost use Rattle.ft_bank.specs.Passes.{shape_of, view, IsPassOf};
@@ -47,7 +47,7 @@ fn fill_copy(
     requires pass { IsPassOf bank.now pass.old }
     requires keyed { KnowsKeyed (shape_of bank.now) d from (view pass.old) }
     requires dict { kind_in (shape_of bank.now).starts d ≡ kind.Dict }
-    requires counts { AreCounts (held_words d (view pass.old)).block counts }
+    requires counts { AreCounts (held_unboxed d (view pass.old)).block counts }
     requires table { IsTableIn (shape_of bank.now) table }
     requires fresh { stage (table_id table) (view pass.old).log ≡ 1 }
     requires room { counts.count ≤ rows kind.Dict (class_of (table_id table)) }
@@ -83,7 +83,7 @@ fn copy_in_taken(
     requires may { MayAddKey (shape_of bank.now) e old (view pass.old) }
     requires dict { kind_in (shape_of bank.now).starts d ≡ kind.Dict }
     requires other_dict { kind_in (shape_of bank.now).starts e ≡ kind.Dict }
-    requires counts { AreCounts (held_words d (view pass.old)).block counts }
+    requires counts { AreCounts (held_unboxed d (view pass.old)).block counts }
     requires next { next ≡ serial_of (known_state e (view pass.old)).content }
     requires serials { next + counts.count < 2 ^ 63 }
     requires class { IsClass class }
@@ -100,7 +100,17 @@ fn copy_in_taken(
         Took::Taken(table) => {
             fill_copy(bank, pass, d, from, counts, table, next);
             let count = counts.count;
-            let number = swap_table(bank, pass, e, old, table, count, next + count, called);
+            let number = swap_table(
+                bank,
+                pass,
+                e,
+                Way::Dict,
+                old,
+                table,
+                count,
+                next + count,
+                called,
+            );
             retire_old(bank, pass, old);
             Added::Made(Stamp {
                 number,
@@ -143,6 +153,6 @@ pub fn copy_into(bank: &Bank, pass: &mut Pass, d: u32, e: u32, called: &Call) ->
     let next = read_counts(bank, pass, e).next;
     match taken_by_copy(counts.count) {
         Some(class) => copy_in_taken(bank, pass, d, e, from, old, class, counts, next, called),
-        None => Added::Made(clear_keyed(bank, pass, e, called)),
+        None => Added::Made(clear_keyed(bank, pass, e, Way::Dict, called)),
     }
 }

@@ -8,6 +8,7 @@ use Rattle.ft_trace.specs.declared.View.{View}
 use Rattle.ft_trace.specs.Acts.{has_lock, stage, announces, view_after}
 use Rattle.ft_trace.specs.Traces.{IsFree}
 use Rattle.ft_bank.specs.Whole.{OnlyLoaded}
+use Rattle.ft_bank.proofs.DoneBoxes.{done_same}
 use Rattle.ft_section.specs.declared.answers.Objects.{Objects}
 use Rattle.ft_section.specs.declared.answers.Step.{Step}
 use Rattle.ft_section.specs.declared.answers.Step.TheVariants as step
@@ -33,6 +34,7 @@ left_is_free v w freed none still x offline = (
   x.idle,
   x.owes still.owes,
   offline,
+  done_same (view_after (Announce v.number 0) v) w x.keeps.boxes still.boxes,
 )
 
 -- ---- a call keeps the number of the next pass

@@ -1,5 +1,5 @@
 -- From what a look-up shows to what a call may answer, for dicts and sets.
-use Rattle.std.proofs.Common.{◌≤◌, ◌≡◌, ℕ, ◌<◌, List, [], ◌∷◌, ◌++◌, Some, None, sym, ap, ◌∙◌, subst, true, false, append_assoc, refl}
+use Rattle.std.proofs.Common.{◌≤◌, ◌≡◌, ℕ, ◌<◌, List, [], ◌∷◌, ◌++◌, Some, None, sym, ap, ◌∙◌, subst, true, false, append_assoc, refl, inl}
 use Rattle.ft_model.specs.declared.call.Call.{Call}
 use Rattle.ft_model.specs.declared.call.Call.TheVariants as call
 use Rattle.ft_model.specs.declared.call.SetCall.TheVariants as set
@@ -11,7 +11,7 @@ use Rattle.ft_model.specs.declared.script.Kind.TheVariants as kind
 use Rattle.ft_layout.specs.declared.slot.Stored.TheVariants.{Plain}
 use Rattle.ft_layout.specs.Words.{FitsKey, IsStored}
 use Rattle.ft_trace.specs.declared.Act.{Act}
-use Rattle.ft_trace.specs.declared.Act.TheVariants.{ReadBlock, ReadRoot, ReadTable, ReadCounter, Version, Answer}
+use Rattle.ft_trace.specs.declared.Act.TheVariants.{ReadBlock, ReadRoot, ReadTable, ReadCounter, ReadBox, Version, Answer}
 use Rattle.ft_trace.specs.declared.Shape.{Shape}
 use Rattle.ft_trace.specs.declared.View.{View}
 use Rattle.ft_trace.specs.Acts.{view_after, shown}
@@ -43,6 +43,7 @@ looks_own (ReadBlock o i f ∷ l) q = looks_own l q
 looks_own (ReadRoot o f ∷ l) q = looks_own l q
 looks_own (ReadTable t i f ∷ l) q = looks_own l q
 looks_own (ReadCounter f ∷ l) q = looks_own l q
+looks_own (ReadBox c j f ∷ l) q = looks_own l q
 looks_own (act ∷ l) q = absurd q
 
 pub looks_newer : (newer rest : List Act) → AreLooks (newer ++ rest) → AreLooks newer
@@ -52,6 +53,7 @@ looks_newer (ReadBlock o i f ∷ l) rest q = looks_newer l rest q
 looks_newer (ReadRoot o f ∷ l) rest q = looks_newer l rest q
 looks_newer (ReadTable t i f ∷ l) rest q = looks_newer l rest q
 looks_newer (ReadCounter f ∷ l) rest q = looks_newer l rest q
+looks_newer (ReadBox c j f ∷ l) rest q = looks_newer l rest q
 looks_newer (act ∷ l) rest q = absurd q
 
 -- a pass that has loaded the counter and words of the bank may ask of a container
@@ -85,13 +87,13 @@ module _ (v w : View) (k : Shape) (o : ℕ) (key : Key) (n : ℕ) (part : List A
     pub key_here : kind_in k.starts o ≡ kind.Dict → (value : Value) → IsStored value_kind payload (Plain value) → KeyIsShown w o key (Some value) n
     key_here is value stored =
         let here : kind_in w.shape.starts o ≡ kind.Dict = ap (λ (z : Shape). kind_in z.starts o) same ∙ is in
-        (dict_hits_are_shown w o shows.t shows.place key n ask here fits (subst (λ z. shows.place < rows z (class_of shows.t)) is shows.low) shows.hit).1 value_kind payload shows.read value stored
+        (dict_hits_are_shown w o shows.t shows.place key n ask here fits (subst (λ z. shows.place < rows z (class_of shows.t)) is shows.low) shows.hit).1 value_kind payload (inl shows.read) value stored
 
     -- the words that were read are those of a value
     pub value_here : IsReachable w → kind_in k.starts o ≡ kind.Dict → (value : Value) × IsStored value_kind payload (Plain value)
     value_here possible is =
         let here : kind_in w.shape.starts o ≡ kind.Dict = ap (λ (z : Shape). kind_in z.starts o) same ∙ is in
-        values_are_read w o shows.t shows.place key n possible ask.low here fits (subst (λ z. shows.place < rows z (class_of shows.t)) is shows.low) shows.hit value_kind payload shows.read
+        values_are_read w o shows.t shows.place key n possible ask.low here fits (subst (λ z. shows.place < rows z (class_of shows.t)) is shows.low) shows.hit value_kind payload (inl shows.read)
 
     pub element_here : kind_in k.starts o ≡ kind.Set → IsShown w (call.Set o (set.Has key)) (reply.Truth true) n
     element_here is =

@@ -1,5 +1,5 @@
 -- What a call answers that was made under its locks, and that the pass is in the midst of its call still.
-use Rattle.std.proofs.Common.{◌≡◌, ◌<◌, ℕ, true, false, true≢false, List, ◌∷◌, ◌++◌, refl, sym, ap, ◌∙◌, subst, inl, inr, ⊎_elim, append_assoc, le_trans}
+use Rattle.std.proofs.Common.{◌≡◌, ◌<◌, ◌≤◌, ℕ, ◌+◌, true, false, true≢false, List, ◌∷◌, ◌++◌, refl, sym, ap, ◌∙◌, subst, inl, inr, ⊎_elim, append_assoc, le_trans}
 use mathlib.Core.Logic.{dite}
 use native.Mathlib.Decide.{ℕ_discrete}
 use Rattle.ft_model.specs.declared.call.Call.{Call}
@@ -15,7 +15,8 @@ use Rattle.ft_trace.specs.declared.Shape.{Shape}
 use Rattle.ft_trace.specs.declared.View.{View}
 use Rattle.ft_trace.specs.Acts.{has_lock, stage, debt, view_after}
 use Rattle.ft_trace.specs.Addresses.{container_count}
-use Rattle.ft_trace.specs.Holds.{held_words, known_state}
+use Rattle.ft_trace.specs.Boxes.{references_held, IsDoneWithBoxes}
+use Rattle.ft_trace.specs.Holds.{held_words, held_unboxed, known_state}
 use Rattle.ft_trace.specs.Pictures.{ContainerWords, root_in, Represents}
 use Rattle.ft_trace.specs.Kinds.{IsKeyed}
 use Rattle.ft_trace.specs.ContainerStates.{ContainerState, changes, kind_in, reply_in, kinds_in}
@@ -27,6 +28,9 @@ use Rattle.ft_bank.specs.Passes.{view, IsPassOf}
 use Rattle.ft_bank.specs.PassSections.{stack_of}
 use Rattle.ft_bank.specs.Whole.{OnlyLoaded, Wrote, write_entry, hand_after, debt_after}
 use Rattle.ft_bank.specs.WriteSteps.{MayHave}
+use Rattle.ft_bank.specs.SameBoxes.{SameReferences, named_in_words}
+use Rattle.ft_bank.proofs.BoxedSteps.{boxes_same, made_then}
+use Rattle.ft_bank.proofs.DoneBoxes.{done_as}
 use Rattle.ft_bank.proofs.LastLoads.{last_older}
 use Rattle.ft_bank.proofs.KnownAfterWrites.{loaded_held, loaded_then, work_knows, pass_then, same_work}
 use Rattle.ft_section.specs.declared.answers.Stamp.{Stamp}
@@ -79,13 +83,16 @@ module _ (v u : View) (l : OnlyLoaded v u) where
           shows = x.shows;
           left = sym l.work.left ∙ x.left;
           entries = x.entries ∙ ap (λ (es : List Entry). write_entry called said n ∷ es) l.work.entries;
-          hands = λ t. x.hands t ∙ (λ d. hand_after o (root_in (h d)) (root_in (held_words o w)) t (l.work.hands t d));
-          debt = x.debt ∙ (λ d. debt_after o (root_in (h d)) (root_in (held_words o w)) (l.work.debt d));
+          hands = λ t. x.hands t ∙ (λ d. hand_after o (root_in (h d)) (root_in (held_unboxed o w)) t (l.work.hands t d));
+          debt = x.debt ∙ (λ d. debt_after o (root_in (h d)) (root_in (held_unboxed o w)) (l.work.debt d));
           used = x.used;
           owes = x.owes;
+          tables = x.tables ∙ l.work.tables;
+          made = made_then v u w l.boxes.made x.made;
+          loses = λ b. subst (λ (m : ℕ). references_held w.shape b w.log + named_in_words b (kind_in w.shape.starts o) (held_words o w) ≤ m) (λ d. l.boxes.references b d + named_in_words b (kind_in (s d).starts o) (h d)) (x.loses b);
           others = λ p low ne mine quiet.
               let e = x.others p (subst (λ (k : Shape). p < container_count k) (sym s) low) ne (l.work.pass.locks p ∙ mine) (l.work.pass.writes p ∙ quiet) in
-              (e.0 ∙ loaded_held v u p l, e.1 ∙ work_knows v u p l.work);
+              (e.0 ∙ loaded_held v u p l, e.1 ∙ work_knows v u p l.work, e.2 ∙ l.unboxed p low mine);
           found = x.found;
           has = record {
             agrees = λ p low mine. x.has.agrees p (subst (λ (k : Shape). p < container_count k) (sym s) low) (l.work.pass.locks p ∙ mine) ∙ work_knows v u p l.work;
@@ -96,7 +103,7 @@ module _ (v u : View) (l : OnlyLoaded v u) where
             words = x.has.words;
           };
           content = x.content;
-          stands = subst (λ (k : Shape). Represents k.texts (held_words o w) (known_state o w)) s x.stands;
+          stands = subst (λ (k : Shape). Represents k.texts (held_unboxed o w) (known_state o w)) s x.stands;
         }
 
     pub loaded_answered : (part : List Act) → u.log ≡ part ++ v.log → Answered called said n u w → Answered called said n v w
@@ -116,16 +123,16 @@ module _ (v u : View) (l : OnlyLoaded v u) where
     made = ⊎_elim (λ x. inl (x.0, loaded_wrote called said stamp.number w x.1)) (λ x. inr (x.0, loaded_answered called said stamp.number w part log x.1)) m.made;
     replied = replied_loaded called said m.replied;
     wrote = m.wrote;
-    tables = record { hands = λ t. m.tables.hands t ∙ l.work.hands t; debt = m.tables.debt ∙ l.work.debt };
+    tables = record { hands = λ t. m.tables.hands t ∙ l.work.hands t; debt = m.tables.debt ∙ l.work.debt; references = λ b. m.tables.references b ∙ l.boxes.references b };
   }
 
 -- ---- how a call was made
 
 -- as a write that leaves the root
-pub wrote_as : (called : Call) (said : Reply) (n : ℕ) (v w : View) → is_write called said ≡ true → IsReplyTo called said v → Wrote called said n v w → root_in (held_words (changes called) w) ≡ root_in (held_words (changes called) v) → MadeAs called said (record { number = n; wrote = true }) v w
-wrote_as called said n v w write replied x root =
+pub wrote_as : (called : Call) (said : Reply) (n : ℕ) (v w : View) → is_write called said ≡ true → IsReplyTo called said v → Wrote called said n v w → root_in (held_unboxed (changes called) w) ≡ root_in (held_unboxed (changes called) v) → SameReferences v w → MadeAs called said (record { number = n; wrote = true }) v w
+wrote_as called said n v w write replied x root references =
     let o = changes called in
-    let old = root_in (held_words o v) in
+    let old = root_in (held_unboxed o v) in
     record {
       made = inl (refl, x);
       replied = replied;
@@ -133,6 +140,7 @@ wrote_as called said n v w write replied x root =
       tables = record {
         hands = λ t. x.hands t ∙ (ap (λ (z : ℕ). hand_after o old z t (stage t v.log)) root ∙ hit old (stage t v.log) _);
         debt = x.debt ∙ (ap (λ (z : ℕ). debt_after o old z (debt v.log)) root ∙ hit old (debt v.log) _);
+        references = references;
       };
     }
 
@@ -142,7 +150,7 @@ answered_as called said n v w read replied is x = record {
   made = inr (refl, x);
   replied = replied;
   wrote = sym read;
-  tables = record { hands = λ t. ap (λ (z : View). stage t z.log) is; debt = ap (λ (z : View). debt z.log) is };
+  tables = record { hands = λ t. ap (λ (z : View). stage t z.log) is; debt = ap (λ (z : View). debt z.log) is; references = λ b. ap (λ (z : View). references_held z.shape b z.log) is };
 }
 
 -- ---- the pass is in the midst of its call
@@ -156,17 +164,18 @@ wrote_still called said n v w s x keeps =
       used = x.used;
       owes = x.owes;
       flight = x.pass.flight ∙ s.flight;
+      boxes = done_as v w keeps.references x.made s.boxes;
       stands = λ p low has.
           let shape = x.pass.shape in
           let low' : p < container_count v.shape = subst (λ (k : Shape). p < container_count k) shape low in
           let mine : has_lock p v.log ≡ true = sym (x.pass.locks p) ∙ has in
-          let then_stands : Represents v.shape.texts (held_words p w) (known_state p w) =
+          let then_stands : Represents v.shape.texts (held_unboxed p w) (known_state p w) =
           dite (ℕ_discrete p o)
-          (λ (e : p ≡ o). subst (λ (q : ℕ). Represents v.shape.texts (held_words q w) (known_state q w)) (sym e) x.stands)
+          (λ (e : p ≡ o). subst (λ (q : ℕ). Represents v.shape.texts (held_unboxed q w) (known_state q w)) (sym e) x.stands)
           (λ ne.
           let e = x.others p low' ne mine (s.even p) in
-          subst (λ (y : ContainerWords × ContainerState). Represents v.shape.texts y.0 y.1) (λ d. (sym e.0 d, sym e.1 d)) (s.stands p low' mine)) in
-          subst (λ (k : Shape). Represents k.texts (held_words p w) (known_state p w)) (sym shape) then_stands;
+          subst (λ (y : ContainerWords × ContainerState). Represents v.shape.texts y.0 y.1) (λ d. (sym e.2 d, sym e.1 d)) (s.stands p low' mine)) in
+          subst (λ (k : Shape). Represents k.texts (held_unboxed p w) (known_state p w)) (sym shape) then_stands;
     }
 
 pub making_made : (b : Bank) (p q : Pass) (called : Call) (said : Reply) (stamp : Stamp) → LeavesSections called → IsMaking b p → IsPassOf b q → stack_of q ≡ stack_of p → MadeAs called said stamp (view p) (view q) → IsMaking b q
@@ -179,18 +188,18 @@ making_made b p q called said stamp leaves m pass stack made =
 -- ---- entries that aren't writes
 
 pub loaded_same : (v : View) → OnlyLoaded v v
-loaded_same v = record { work = same_work v; words = refl }
+loaded_same v = record { work = same_work v; words = refl; unboxed = λ p low mine. refl; boxes = boxes_same v }
 
 pub shown_replied : (called : Call) (said : Reply) (v : View) (n : ℕ) → IsShownBy called said v → (stored : StoredWorld) → MayHave (view_after (ReadCounter n) v) stored → IsReplied called said (reply_in stored called)
 shown_replied called said v n x stored has = x.plain stored (x.replied stored (record { agrees = has.agrees; containers = has.containers; order = has.order; kinds = has.kinds; unsplit = has.unsplit; words = has.words }))
 
 -- ---- after loads, for whoever looked for a key first
 
-pub written_made : (o : ℕ) (left : ContainerState) (called : Call) (said : Reply) (n : ℕ) (stamp : Stamp) (v u w : View) (part : List Act) → OnlyLoaded v u → u.log ≡ part ++ v.log → Leaves o called said left u → Wrote called said n u w → root_in (held_words o w) ≡ root_in (held_words o u) → stamp ≡ record { number = n; wrote = true } → MadeAs called said stamp v w
-written_made o left called said n stamp v u w part loaded log leaves wrote root is =
+pub written_made : (o : ℕ) (left : ContainerState) (called : Call) (said : Reply) (n : ℕ) (stamp : Stamp) (v u w : View) (part : List Act) → OnlyLoaded v u → u.log ≡ part ++ v.log → Leaves o called said left u → Wrote called said n u w → root_in (held_unboxed o w) ≡ root_in (held_unboxed o u) → SameReferences u w → stamp ≡ record { number = n; wrote = true } → MadeAs called said stamp v w
+written_made o left called said n stamp v u w part loaded log leaves wrote root references is =
     made_loaded v u loaded called said stamp w part log
     (subst (λ (z : Stamp). MadeAs called said z u w) (sym is)
-    (wrote_as called said n u w leaves.write leaves.replied wrote (subst (λ (p : ℕ). root_in (held_words p w) ≡ root_in (held_words p u)) (sym leaves.changed) root)))
+    (wrote_as called said n u w leaves.write leaves.replied wrote (subst (λ (p : ℕ). root_in (held_unboxed p w) ≡ root_in (held_unboxed p u)) (sym leaves.changed) root) references))
 
 pub answer_loaded : (called : Call) (said given : Reply) (stamp : Stamp) (v u w : View) (part : List Act) → OnlyLoaded v u → u.log ≡ part ++ v.log → given ≡ said → MadeAs called said stamp u w → MadeAs called given stamp v w
 answer_loaded called said given stamp v u w part loaded log is made = subst (λ (z : Reply). MadeAs called z stamp v w) (sym is) (made_loaded v u loaded called said stamp w part log made)
@@ -203,7 +212,8 @@ making_may b p k o m shape low keyed mine left = record {
   keyed = keyed;
   locked = mine;
   even = m.inside.1.still.even;
-  stands = subst (λ (z : Shape). Represents z.texts (held_words o (view p)) (known_state o (view p))) shape (m.inside.1.still.stands o (subst (λ (z : Shape). o < container_count z) (sym shape) low) mine);
+  stands = subst (λ (z : Shape). Represents z.texts (held_unboxed o (view p)) (known_state o (view p))) shape (m.inside.1.still.stands o (subst (λ (z : Shape). o < container_count z) (sym shape) low) mine);
   owes = m.inside.1.still.owes;
+  boxes = subst (λ (z : Shape). IsDoneWithBoxes z (view p).log) shape m.inside.1.still.boxes;
   left = left;
 }

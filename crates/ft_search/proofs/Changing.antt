@@ -1,5 +1,5 @@
 -- A write that changes one entry of a dict or a set: what its words have to meet before the commit and after it.
-use Rattle.std.proofs.Common.{◌≡◌, ◌≢◌, ℕ, suc, ◌+◌, ◌%◌, ◌<◌, ◌≤◌, Bool, true, false, List, ◌∷◌, Option, Some, refl, sym, ap, ◌∙◌, subst, arith, length-set, get_or-set_same, get_or-set_other, None, [], true≢false}
+use Rattle.std.proofs.Common.{◌≡◌, ◌≢◌, ℕ, suc, ◌+◌, ◌%◌, ◌<◌, ◌≤◌, Bool, true, false, List, ◌∷◌, Option, Some, refl, sym, ap, ◌∙◌, subst, inl, arith, length-set, get_or-set_same, get_or-set_other, None, [], true≢false}
 use Rattle.std.specs.Prelude.{All, IsTrue, slice_get, slice_index, slice_set}
 use Rattle.std.proofs.Math.Logic.{∥∥₁_elim}
 use Rattle.std.proofs.Math.Nat.{ℕ_set}
@@ -20,19 +20,21 @@ use Rattle.ft_trace.specs.declared.View.{View}
 use Rattle.ft_trace.specs.Addresses.{container_count, class_of, slots}
 use Rattle.ft_trace.specs.Acts.{has_lock, is_writing, has_committed}
 use Rattle.ft_trace.specs.Carefuls.{HasLiveKey}
-use Rattle.ft_trace.specs.Holds.{held_words, known_state}
+use Rattle.ft_trace.specs.Holds.{held_words, held_unboxed, known_state}
 use Rattle.ft_trace.specs.Kinds.{rows, version_at, CarefulAs, ClearAs, HasVersions}
 use Rattle.ft_trace.specs.OddVersions.{Shut, Timely}
 use Rattle.ft_trace.specs.Traces.{IsReachable}
 use Rattle.ft_trace.specs.Pictures.{ContainerWords, root_in, entry_offset, entry_field, Represents}
 use Rattle.ft_trace.specs.ContainerStates.{ContainerState, kind_in}
-use Rattle.ft_trace.specs.WholeWrites.{Put, to_table, with_puts, MayPut, MayPuts}
+use Rattle.ft_trace.specs.WholeWrites.{Put, to_table, with_puts, IsNoValue, MayPut, MayPuts}
 use Rattle.ft_trace.proofs.Clearing.{held_shut}
 use Rattle.ft_trace.proofs.DictWrites.{EntryVersionsChangeNothing}
 use Rattle.ft_trace.proofs.Known.{after_header, kind_known}
 use Rattle.ft_trace.proofs.Tellings.{live_tells, key_words}
+use Rattle.ft_bank.specs.SameBoxes.{HoldsFew}
 use Rattle.ft_bank.specs.WriteSteps.{IsCareful}
 use Rattle.ft_search.specs.OneEntryWrites.{raised_at}
+use Rattle.ft_search.proofs.Puts.{shut_reads}
 use Rattle.ft_model.specs.TableUses.{is_split}
 use Rattle.ft_trace.proofs.UnsplitTables.{known_unsplit}
 use Rattle.ft_trace.proofs.LandedStarts.{has_versions}
@@ -116,11 +118,11 @@ kind_is k v o shape possible mine =
 -- ---- puts
 
 -- a put that may be made on these words is one that readers aren't misled by
-pub put_at : (k : Shape) (o t i y : ℕ) (committed : Bool) (words : ContainerWords) (c : Content) (w : View) → w.shape ≡ k → has_committed o w.log ≡ committed → held_words o w ≡ words → (known_state o w).content ≡ c → MayPut (kind_in k.starts o) t c committed words (to_table i y) → IsCareful w o t i y
-put_at k o t i y committed words c w shape late is content may =
-    let care : CarefulAs (kind_in w.shape.starts o) (class_of t) (held_words o w).table (known_state o w).content i y = subst (λ (z : Shape × ContainerWords × Content). CarefulAs (kind_in z.0.starts o) (class_of t) z.1.table z.2 i y) (sym (λ d. (shape d, is d, content d))) may.2 in
+pub put_at : (k : Shape) (o t i y : ℕ) (committed : Bool) (words : ContainerWords) (c : Content) (w : View) → w.shape ≡ k → has_committed o w.log ≡ committed → held_unboxed o w ≡ words → (known_state o w).content ≡ c → HoldsFew w → MayPut (kind_in k.starts o) t c committed words (to_table i y) → IsCareful w o t i y
+put_at k o t i y committed words c w shape late is content few may =
+    let care : CarefulAs (kind_in w.shape.starts o) (class_of t) (held_unboxed o w).table (known_state o w).content i y = subst (λ (z : Shape × ContainerWords × Content). CarefulAs (kind_in z.0.starts o) (class_of t) z.1.table z.2 i y) (sym (λ d. (shape d, is d, content d))) may.2 in
     let timely : Timely (version_at (kind_in w.shape.starts o) (class_of t)) (rows (kind_in w.shape.starts o) (class_of t)) i y (has_committed o w.log) = subst (λ (z : Shape × Bool). Timely (version_at (kind_in z.0.starts o) (class_of t)) (rows (kind_in z.0.starts o) (class_of t)) i y z.1) (sym (λ d. (shape d, late d))) may.3 in
-    record { care = care; timely = timely }
+    record { care = care; timely = timely; references = inl (subst (λ (z : Shape). IsNoValue (kind_in z.starts o) (class_of t) i) (sym shape) may.4, few) }
 
 -- a block that counts another number of pairs or elements
 pub with_count : (b : List ℕ) (class : Option ℕ) (old new fill next : ℕ) → IsBlock b class old fill next → IsBlock (slice_set b 1 new) class new fill next
@@ -137,14 +139,16 @@ with_count b class old new fill next h =
     }
 
 -- no version of an entry is odd before the write
-pub shut_known : (k : Shape) (v : View) (o t : ℕ) → v.shape ≡ k → ∥ IsReachable v ∥₁ → o < container_count k → has_lock o v.log ≡ true → is_writing o v.log ≡ false → root_in (held_words o v) ≡ suc t → Shut (version_at (kind_of (known_state o v).content) (class_of t)) (rows (kind_of (known_state o v).content) (class_of t)) (held_words o v).table
+pub shut_known : (k : Shape) (v : View) (o t : ℕ) → v.shape ≡ k → ∥ IsReachable v ∥₁ → o < container_count k → has_lock o v.log ≡ true → is_writing o v.log ≡ false → root_in (held_unboxed o v) ≡ suc t → Shut (version_at (kind_of (known_state o v).content) (class_of t)) (rows (kind_of (known_state o v).content) (class_of t)) (held_unboxed o v).table
 shut_known k v o t shape possible low mine even names p less =
     let kind_eq : kind_of (known_state o v).content ≡ kind_in v.shape.starts o = kind_is k v o shape possible mine ∙ sym (ap (λ (z : Shape). kind_in z.starts o) shape) in
     let here : o < container_count v.shape = subst (λ (z : Shape). o < container_count z) (sym shape) low in
     let row : p < rows (kind_in v.shape.starts o) (class_of t) = subst (λ (z : Kind). p < rows z (class_of t)) kind_eq less in
-    let even_now : slice_index (held_words o v).table (version_at (kind_in v.shape.starts o) (class_of t) p) % 2 ≡ 0 =
-    ∥∥₁_elim {P = slice_index (held_words o v).table (version_at (kind_in v.shape.starts o) (class_of t) p) % 2 ≡ 0} possible (ℕ_set _ _) (λ x. held_shut v o t here x mine even names p row) in
-    subst (λ (z : Kind). slice_index (held_words o v).table (version_at z (class_of t) p) % 2 ≡ 0) (sym kind_eq) even_now
+    let even_now : slice_index (held_unboxed o v).table (version_at (kind_in v.shape.starts o) (class_of t) p) % 2 ≡ 0 =
+    shut_reads v o t names
+    (λ q fits. ∥∥₁_elim {P = slice_index (held_words o v).table (version_at (kind_in v.shape.starts o) (class_of t) q) % 2 ≡ 0} possible (ℕ_set _ _) (λ x. held_shut v o t here x mine even names q fits))
+    p row in
+    subst (λ (z : Kind). slice_index (held_unboxed o v).table (version_at z (class_of t) p) % 2 ≡ 0) (sym kind_eq) even_now
 
 -- ---- the entry that changes
 

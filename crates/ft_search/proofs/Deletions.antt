@@ -1,5 +1,6 @@
 -- What the deletion of an entry of a dict or a set leaves of its words, and that readers aren't misled by it.
-use Rattle.std.proofs.Common.{◌≡◌, ℕ, suc, ◌+◌, ◌-◌, ◌*◌, ◌%◌, ◌<◌, ◌≤◌, false, List, [], ◌∷◌, length, Option, Some, refl, sym, ap, ◌∙◌, subst, arith, get_or-set_same, get_or-set_other}
+use Rattle.std.proofs.Common.{◌≡◌, ◌≢◌, ℕ, suc, ◌+◌, ◌-◌, ◌*◌, ◌%◌, ◌<◌, ◌≤◌, false, true≢false, List, [], ◌∷◌, length, Option, Some, refl, sym, ap, ◌∙◌, subst, arith, get_or-set_same, get_or-set_other}
+use Rattle.std.proofs.lemmas.Option.{get_or_from_slice_get, slice_get_within}
 use Rattle.std.specs.Prelude.{All, IsTrue, slice_index, slice_set, slice_get}
 use Rattle.ft_model.specs.declared.content.Content.{Content}
 use Rattle.ft_model.specs.declared.content.Content.TheVariants as content
@@ -13,22 +14,22 @@ use Rattle.ft_model.specs.TableUses.{TableUse}
 use Rattle.ft_model.specs.Worlds.{kind_of}
 use Rattle.ft_hash.specs.Probes.{dict_slots, set_slots}
 use Rattle.ft_hash.proofs.Walks.{dict_slots-within, set_slots-within}
-use Rattle.ft_layout.specs.Words.{FitsKey, gone_kind, key_kind, key_payload}
-use Rattle.ft_layout.specs.Tables.{UsedEntry, IsTable, is_live, dict_room, set_room}
+use Rattle.ft_layout.specs.Words.{FitsKey, gone_kind, key_kind, key_payload, IsEntry}
+use Rattle.ft_layout.specs.Tables.{UsedEntry, IsTable, is_live, dict_room, set_room, entry_word, hash_of, slot_of, slot_with}
 use Rattle.ft_layout.specs.Tables as layout
 use Rattle.ft_layout.specs.WordChanges.{with_deleted}
 use Rattle.ft_layout.specs.Containers.{class_mask, used_pair, used_element, IsBlock, IsDictWords, IsSetWords}
 use Rattle.ft_layout.proofs.ContentLaws.{stands_for_dict, stands_for_set}
 use Rattle.ft_layout.proofs.Powers.{slots_range}
 use Rattle.ft_trace.specs.Acts.{has_committed}
-use Rattle.ft_trace.specs.Addresses.{class_of, slots, size}
+use Rattle.ft_trace.specs.Addresses.{container_count, class_of, slots, size}
 use Rattle.ft_trace.specs.Carefuls.{HasLiveKey, IsDead, OpensChanged, said_of}
 use Rattle.ft_trace.specs.Kinds.{under, rows, version_at, CarefulAs, ClearAs, IsKeyed}
 use Rattle.ft_trace.specs.OddVersions.{Shut}
 use Rattle.ft_trace.specs.Pictures.{ContainerWords, root_in, entry_offset, entry_field, Represents}
 use Rattle.ft_trace.specs.declared.Shape.{Shape}
 use Rattle.ft_trace.specs.declared.View.{View}
-use Rattle.ft_trace.specs.Holds.{held_words, known_state}
+use Rattle.ft_trace.specs.Holds.{held_unboxed, known_state}
 use Rattle.ft_trace.specs.Traces.{IsReachable}
 use Rattle.ft_trace.specs.ContainerStates.{ContainerState, kind_in}
 use Rattle.ft_trace.specs.WholeWrites.{to_block, to_table, with_puts, MayPut, MayPuts}
@@ -40,16 +41,19 @@ use Rattle.ft_trace.proofs.EntryPuts.{dead_open, dead_kind, dead_same, dead_late
 use Rattle.ft_trace.proofs.FitCalls.{dict_fits_words, set_fits_words}
 use Rattle.ft_trace.proofs.KeysDeleted as deleted
 use Rattle.ft_trace.proofs.SetDiscards as discarded
-use Rattle.ft_trace.proofs.Known.{after_header, class_known, table_is_long}
+use Rattle.ft_trace.proofs.Known.{after_header, class_known, past_header, table_is_long}
+use Rattle.ft_trace.proofs.ValuePlaces.{keyed_far, plain_kind}
 use Rattle.ft_bank.specs.declared.table.Table.{Table}
+use Rattle.ft_bank.specs.BoxSteps.{IsOpenValue}
+use Rattle.ft_bank.specs.SameBoxes.{SameReferences}
 use Rattle.ft_bank.specs.TableNames.{table_id}
-use Rattle.ft_bank.specs.Whole.{OnlyLoaded, OnlyPut}
+use Rattle.ft_bank.specs.Whole.{OnlyLoaded, OnlyPut, OnlyWritten}
 use Rattle.ft_bank.specs.WriteSteps.{IsCareful, with_block, with_table}
-use Rattle.ft_bank.proofs.KnownAfterWrites.{loaded_held, loaded_put, put_then, work_knows}
+use Rattle.ft_bank.proofs.KnownAfterWrites.{loaded_put, put_then, put_written, work_knows, written_then}
 use Rattle.ft_search.specs.OneEntryWrites.{HasTable, IsLiveEntry, MayWriteEntries, WritesEntries, deletion, raised_at, without_key}
 use Rattle.ft_search.proofs.Changing.{Changing, with_count, kind_is, shut_known, put_at, live_item, table_version_put}
 use Rattle.ft_search.proofs.Laws.{DictLaws, SetLaws}
-use Rattle.ft_search.proofs.Puts.{keyed_careful, keyed_version, table_class, writes_on}
+use Rattle.ft_search.proofs.Puts.{few_done, keyed_careful, keyed_value, keyed_version, table_class, writes_on}
 
 -- ---- what dicts and sets have in common
 
@@ -82,6 +86,7 @@ record Entries (texts : List ℕ) (t : ℕ) (tab : TableUse) : Type 1 where
   clear : (block before : List ℕ) (had news : Had) (ws zs : List ℕ) → IsWords before (0 ∷ 0 ∷ ws) had → IsWords block (0 ∷ 0 ∷ zs) news
       → ((q w : ℕ) → q < rows (kind_of (content_of had)) (class_of t) → entry_field (slots (class_of t)) zs q 0 % 2 ≡ 0 → w < 8 → entry_field (slots (class_of t)) zs q w ≡ entry_field (slots (class_of t)) ws q w) → OpensChanged (slots (class_of t)) (rows (kind_of (content_of had)) (class_of t)) zs (under (content_of had)) (under (content_of news)) → ClearAs (kind_of (content_of had)) texts (class_of t) zs (content_of had) (content_of news)
   there : (block ws : List ℕ) (had : Had) → IsWords block (0 ∷ 0 ∷ ws) had → (place : ℕ) (key : Key) → place < rows (kind_of (content_of had)) (class_of t) → HasLiveKey (slots (class_of t)) ws place key → under (content_of had) key ≡ said_of (slots (class_of t)) ws place
+  plain : (item : Item) (hash : ℕ) (word : ℕ → ℕ) → IsEntry word (slot_with hash (used_item item).key (used_item item).serial (used_item item).stored) → word 4 ≢ 4
   gone : (block words : List ℕ) (had : Had) → IsWords block words had → (key other : Key) → FitsKey key → (key_kind other ≡ key_kind key) × (key_payload other ≡ key_payload key) → under (content_of (without had key)) other ≡ []
 
 abbrev dict_entries : DictLaws → (texts : List ℕ) (t : ℕ) (tab : TableUse) → IsClass (class_of t) → tab.class ≡ Some (class_of t) → Entries texts t tab
@@ -110,6 +115,7 @@ dict_entries laws texts t tab is_class class_eq = record {
   deleted = λ block words other. laws.deletes texts block words other (class_of t) tab.fill;
   clear = λ block before. dict.dict_clear laws.first texts block before (class_of t) tab.fill tab.fill is_class;
   there = λ block ws had is. dict.dict_right laws.first texts block (class_of t) tab.fill is_class had ws is;
+  plain = λ item hash word is four. plain_kind item.value (sym is.value.kind_is ∙ four);
   gone = λ block words had is key other fits. deleted.none_under had key other fits (dict_fits_words texts block words (class_of t) tab.fill had is);
 }
 
@@ -139,6 +145,7 @@ set_entries laws texts t tab is_class class_eq = record {
   deleted = λ block words other. laws.deletes texts block words other (class_of t) tab.fill;
   clear = λ block before. set.set_clear laws.first texts block before (class_of t) tab.fill tab.fill is_class;
   there = λ block ws had is. set.set_right laws.first texts block (class_of t) tab.fill is_class had ws is;
+  plain = λ item hash word is four. let z : 0 ≡ 4 = sym is.value.kind_is ∙ four in absurd (omega (arith, z));
   gone = λ block words had is key other fits. discarded.none_under had key other fits (set_fits_words texts block words (class_of t) tab.fill had is);
 }
 
@@ -202,6 +209,19 @@ module _ (texts : List ℕ) (x : ContainerWords) (tab : TableUse) (t : ℕ) (is_
   mine : (item : e.Item) × (slice_get (e.used b (0 ∷ 0 ∷ ws) had says) p ≡ Some (e.used_item item)) × ((e.used_item item).key ≡ key)
   mine = let room = e.room_is b ws had says in live_item e.walk e.room texts c is_class (e.used b (0 ∷ 0 ∷ ws) had says) e.used_item ws (e.table b (0 ∷ 0 ∷ ws) had says) p key (omega (arith, room, low)) live fits (e.lives b (0 ∷ 0 ∷ ws) had says p)
 
+  -- its value names no box
+  plain_value : entry_field n ws p 4 ≢ 4
+  unfolding slots
+  plain_value four =
+      let used = e.used b (0 ∷ 0 ∷ ws) had says in
+      let entry = e.used_item mine.0 in
+      let table = e.table b (0 ∷ 0 ∷ ws) had says in
+      let word = entry_word (class_mask c) (0 ∷ 0 ∷ ws) p in
+      let is : IsEntry word (slot_of texts entry) = subst (λ (z : UsedEntry). IsEntry word (slot_of texts z)) (get_or_from_slice_get used p entry entry mine.1) (table.entries p entry (slice_get_within used p entry mine.1)) in
+      let r = (slots_range c is_class).0 in
+      let same : word 4 ≡ entry_field n ws p 4 = past_header ws (layout.entry_at (class_mask c) p 4) (entry_offset n p 4) (omega (arith, r)) in
+      e.plain mine.0 (hash_of texts entry.key) word is (same ∙ four)
+
   -- a version that is put into an entry changes nothing
   renewed : (block l : List ℕ) (y : ℕ) (some : e.Had) (is : e.IsWords block (0 ∷ 0 ∷ l) some) → (now : e.IsWords block (0 ∷ 0 ∷ slice_set l (entry_offset n p 0) y) some) × (e.used block (0 ∷ 0 ∷ slice_set l (entry_offset n p 0) y) some now ≡ e.used block (0 ∷ 0 ∷ l) some is)
   renewed block l y some is = e.renewed block (0 ∷ 0 ∷ l) (0 ∷ 0 ∷ slice_set l (entry_offset n p 0) y) some is (table_version_put e.walk e.room texts c is_class (e.used block (0 ∷ 0 ∷ l) some is) e.versions e.within l p y (e.table block (0 ∷ 0 ∷ l) some is))
@@ -238,8 +258,8 @@ module _ (texts : List ℕ) (x : ContainerWords) (tab : TableUse) (t : ℕ) (is_
       let care1 = keyed_careful k (e.keyed had) c ws old (entry_offset n p 0) (ver + 1) (dead_open n m ws p key low long even live (under old)) in
       let care2 = keyed_careful k (e.keyed had) c opened old (entry_offset n p 2) (gone_kind key) (dead_kind n m ws p key low long even live (under old)) in
       let q1 : MayPut k t old false x (to_block 1 (slice_index b 1 - 1)) = (omega arith, omega arith) in
-      let q2 : MayPut k t old false (record { block = block; table = ws }) (to_table (entry_offset n p 0) (ver + 1)) = (still_names, inside 0 (omega arith), care1, record { before = λ q less at one. refl; later = λ q less at two. absurd (omega (arith, two, two_divides)) }) in
-      let q3 : MayPut k t old false (record { block = block; table = opened }) (to_table (entry_offset n p 2) (gone_kind key)) = (still_names, inside 2 (omega arith), care2, record { before = λ q less at one. refl; later = λ q less at two. absurd (let v = keyed_version k (e.keyed had) c q in omega (arith, at, v)) }) in
+      let q2 : MayPut k t old false (record { block = block; table = ws }) (to_table (entry_offset n p 0) (ver + 1)) = (still_names, inside 0 (omega arith), care1, record { before = λ q less at one. refl; later = λ q less at two. absurd (omega (arith, two, two_divides)) }, keyed_far k (e.keyed had) c p 0 (omega arith) (λ z. absurd (omega (arith, z))) (λ z. absurd (omega (arith, z)))) in
+      let q3 : MayPut k t old false (record { block = block; table = opened }) (to_table (entry_offset n p 2) (gone_kind key)) = (still_names, inside 2 (omega arith), care2, record { before = λ q less at one. refl; later = λ q less at two. absurd (let v = keyed_version k (e.keyed had) c q in omega (arith, at, v)) }, keyed_far k (e.keyed had) c p 2 (omega arith) (λ z. absurd (omega (arith, z))) (λ z. absurd (omega (arith, z)))) in
       (q1, (q2, (q3, tt)))
 
   none : (a : Key) → IsDead n put p a → under (e.content_of news) a ≡ []
@@ -258,7 +278,7 @@ module _ (texts : List ℕ) (x : ContainerWords) (tab : TableUse) (t : ℕ) (is_
       (λ bare. let x : said_of n ws p ≡ [] = sym (e.there b ws had says p key low live) ∙ bare in absurd (cc))
       (e.gone b (0 ∷ 0 ∷ ws) had says key key fits (refl, refl))
 
-  key_deleted : Changing texts t x (record { content = old; table = tab }) p (deletion t p key x) (record { content = e.content_of news; table = tab }) × (0 < slice_index b 1)
+  key_deleted : Changing texts t x (record { content = old; table = tab }) p (deletion t p key x) (record { content = e.content_of news; table = tab }) × (0 < slice_index b 1) × (entry_field n ws p 4 ≢ 4)
   key_deleted = (
     record {
       puts = early;
@@ -268,14 +288,15 @@ module _ (texts : List ℕ) (x : ContainerWords) (tab : TableUse) (t : ℕ) (is_
       stands = e.stands (raised_at t p (record { block = block; table = put })) news (renewed block put (entry_field n put p 0 + 1) news now).0;
       shut = shut_then;
     },
-    let s = shorter in omega (arith, s),
+    (let s = shorter in omega (arith, s)),
+    plain_value,
   )
 
 -- ---- by the kind of the content
 
 module _ (dicts : DictLaws) (sets : SetLaws) (texts : List ℕ) (x : ContainerWords) (t : ℕ) (is_class : IsClass (class_of t)) (names : root_in x ≡ suc t) (long : length x.table ≡ size (class_of t)) (p : ℕ) (key : Key) (live : HasLiveKey (slots (class_of t)) x.table p key) (fits : FitsKey key) where
   pub deletes : (c : Content) (tab : TableUse) → IsKeyed (kind_of c) → Represents texts x (record { content = c; table = tab }) → p < rows (kind_of c) (class_of t) → Shut (version_at (kind_of c) (class_of t)) (rows (kind_of c) (class_of t)) x.table
-      → Changing texts t x (record { content = c; table = tab }) p (deletion t p key x) (record { content = without_key c key; table = tab }) × (0 < slice_index x.block 1)
+      → Changing texts t x (record { content = c; table = tab }) p (deletion t p key x) (record { content = without_key c key; table = tab }) × (0 < slice_index x.block 1) × (entry_field (slots (class_of t)) x.table p 4 ≢ 4)
   deletes (content.Dict pairs) tab keyed stands low shut =
       let class = class_known texts x (record { content = content.Dict pairs; table = tab }) t stands names in
       let says : IsDictWords texts x.block (0 ∷ 0 ∷ x.table) (Some (class_of t)) tab.fill pairs = subst (λ (z : Option ℕ). IsDictWords texts x.block (0 ∷ 0 ∷ x.table) z tab.fill pairs) class stands in
@@ -289,19 +310,19 @@ module _ (dicts : DictLaws) (sets : SetLaws) (texts : List ℕ) (x : ContainerWo
 
 -- as the pass knows the container
 pub deletes_known : DictLaws → SetLaws → (k : Shape) (o : ℕ) (table : Table) (v : View) → v.shape ≡ k → ∥ IsReachable v ∥₁ → MayWriteEntries k o v → HasTable k o table v → (place : ℕ) (key : Key) → IsLiveEntry k o table place key v
-    → Changing k.texts (table_id table) (held_words o v) (known_state o v) place (deletion (table_id table) place key (held_words o v)) (record { content = without_key (known_state o v).content key; table = (known_state o v).table }) × (0 < slice_index (held_words o v).block 1)
+    → Changing k.texts (table_id table) (held_unboxed o v) (known_state o v) place (deletion (table_id table) place key (held_unboxed o v)) (record { content = without_key (known_state o v).content key; table = (known_state o v).table }) × (0 < slice_index (held_unboxed o v).block 1) × (entry_field (slots (class_of (table_id table))) (held_unboxed o v).table place 4 ≢ 4)
 deletes_known dicts sets k o table v shape possible may has place key entry =
     let t = table_id table in
     let kind_eq : kind_of (known_state o v).content ≡ kind_in k.starts o = kind_is k v o shape possible may.locked in
-    deletes dicts sets k.texts (held_words o v) t (table_class k table has.table_in) has.root (table_is_long v o t has.root) place key entry.live entry.fits
+    deletes dicts sets k.texts (held_unboxed o v) t (table_class k table has.table_in) has.root (table_is_long v o t has.root) place key entry.live entry.fits
     (known_state o v).content (known_state o v).table (subst IsKeyed (sym kind_eq) may.keyed) may.stands
     (subst (λ (z : Kind). place < rows z (class_of t)) (sym kind_eq) entry.low)
     (shut_known k v o t shape possible may.container may.locked (may.even o) has.root)
 
 -- ---- the puts, one after the other
 
-module _ (k : Shape) (o : ℕ) (table : Table) (place : ℕ) (key : Key) (v w1 w2 : View) (count : ℕ) (shape : v.shape ≡ k) (writes : WritesEntries k o table v) (early : has_committed o v.log ≡ false) (only1 : OnlyLoaded v w1) (is : count ≡ slice_index (held_words o v).block 1) (only2 : OnlyPut o w1 w2) (held2 : held_words o w2 ≡ with_block (held_words o w1) 1 (count - 1))
-    (may : MayPuts (kind_in k.starts o) (table_id table) (known_state o v).content false (held_words o v) (deletion (table_id table) place key (held_words o v))) where
+module _ (k : Shape) (o : ℕ) (table : Table) (place : ℕ) (key : Key) (v w1 w2 : View) (count : ℕ) (shape : v.shape ≡ k) (writes : WritesEntries k o table v) (early : has_committed o v.log ≡ false) (only1 : OnlyLoaded v w1) (is : count ≡ slice_index (held_unboxed o v).block 1) (only2 : OnlyPut o w1 w2) (same2 : SameReferences w1 w2) (held2 : held_unboxed o w2 ≡ with_block (held_unboxed o w1) 1 (count - 1))
+    (may : MayPuts (kind_in k.starts o) (table_id table) (known_state o v).content false (held_unboxed o v) (deletion (table_id table) place key (held_unboxed o v))) where
   abbrev pt : ℕ
   pt = table_id table
 
@@ -309,27 +330,27 @@ module _ (k : Shape) (o : ℕ) (table : Table) (place : ℕ) (key : Key) (v w1 w
   pn = slots (class_of pt)
 
   abbrev counted : ContainerWords
-  counted = with_block (held_words o v) 1 (slice_index (held_words o v).block 1 - 1)
+  counted = with_block (held_unboxed o v) 1 (slice_index (held_unboxed o v).block 1 - 1)
 
-  pub counted_words : held_words o w2 ≡ counted
-  counted_words = held2 ∙ (λ d. with_block (loaded_held v w1 o only1 d) 1 (is d - 1))
+  pub counted_words : held_unboxed o w2 ≡ counted
+  counted_words = held2 ∙ (λ d. with_block (only1.unboxed o (subst (λ (z : Shape). o < container_count z) (sym shape) writes.container) writes.locked d) 1 (is d - 1))
 
   pub counted_only : OnlyPut o v w2
   counted_only = put_then v w1 w2 o (loaded_put v w1 o only1) only2
 
   pub counted_writes : WritesEntries k o table w2
-  counted_writes = writes_on k o table v w2 counted_only (ap root_in counted_words ∙ get_or-set_other (held_words o v).block 1 0 (slice_index (held_words o v).block 1 - 1) 0 (λ e. absurd (omega (arith, e)))) writes
+  counted_writes = writes_on k o table v w2 shape counted_only (λ b. same2 b ∙ only1.boxes.references b) (ap root_in counted_words ∙ get_or-set_other (held_unboxed o v).block 1 0 (slice_index (held_unboxed o v).block 1 - 1) 0 (λ e. absurd (omega (arith, e)))) writes
 
-  pub opens : IsCareful w2 o pt (entry_offset pn place 0) (entry_field pn (held_words o w2).table place 0 + 1)
+  pub opens : IsCareful w2 o pt (entry_offset pn place 0) (entry_field pn (held_unboxed o w2).table place 0 + 1)
   opens =
       subst (λ (z : ContainerWords). IsCareful w2 o pt (entry_offset pn place 0) (entry_field pn z.table place 0 + 1)) (sym counted_words)
-      (put_at k o pt (entry_offset pn place 0) (entry_field pn (held_words o v).table place 0 + 1) false counted (known_state o v).content w2 (counted_only.work.pass.shape ∙ shape) (counted_only.work.committed o ∙ early) counted_words (ap (λ (z : ContainerState). z.content) (work_knows v w2 o counted_only.work)) may.1.0)
+      (put_at k o pt (entry_offset pn place 0) (entry_field pn (held_unboxed o v).table place 0 + 1) false counted (known_state o v).content w2 (counted_only.work.pass.shape ∙ shape) (counted_only.work.committed o ∙ early) counted_words (ap (λ (z : ContainerState). z.content) (work_knows v w2 o counted_only.work)) (few_done k w2 (counted_only.work.pass.shape ∙ shape) counted_writes.boxes) may.1.0)
 
-  module _ (w3 : View) (only3 : OnlyPut o w2 w3) (held3 : held_words o w3 ≡ raised_at pt place (held_words o w2)) (gone : ℕ) (is_gone : gone ≡ gone_kind key) where
+  module _ (w3 : View) (only3 : OnlyPut o w2 w3) (writes3 : WritesEntries k o table w3) (held3 : held_unboxed o w3 ≡ raised_at pt place (held_unboxed o w2)) (gone : ℕ) (is_gone : gone ≡ gone_kind key) where
     abbrev opened' : ContainerWords
     opened' = raised_at pt place counted
 
-    opened_words : held_words o w3 ≡ opened'
+    opened_words : held_unboxed o w3 ≡ opened'
     opened_words = held3 ∙ ap (raised_at pt place) counted_words
 
     opened_only : OnlyPut o v w3
@@ -338,10 +359,56 @@ module _ (k : Shape) (o : ℕ) (table : Table) (place : ℕ) (key : Key) (v w1 w
     pub dies : IsCareful w3 o pt (entry_offset pn place 2) gone
     dies =
         subst (λ (z : ℕ). IsCareful w3 o pt (entry_offset pn place 2) z) (sym is_gone)
-        (put_at k o pt (entry_offset pn place 2) (gone_kind key) false opened' (known_state o v).content w3 (opened_only.work.pass.shape ∙ shape) (opened_only.work.committed o ∙ early) opened_words (ap (λ (z : ContainerState). z.content) (work_knows v w3 o opened_only.work)) may.1.1.0)
+        (put_at k o pt (entry_offset pn place 2) (gone_kind key) false opened' (known_state o v).content w3 (opened_only.work.pass.shape ∙ shape) (opened_only.work.committed o ∙ early) opened_words (ap (λ (z : ContainerState). z.content) (work_knows v w3 o opened_only.work)) (few_done k w3 (opened_only.work.pass.shape ∙ shape) writes3.boxes) may.1.1.0)
 
-    pub deleted_only : (w4 : View) → OnlyPut o w3 w4 → OnlyPut o v w4
-    deleted_only w4 only4 = put_then v w3 w4 o opened_only only4
+    -- the value put in place, where it stood in a box
+    pub deleted_only : (w4 w5 : View) → OnlyPut o w3 w4 → OnlyWritten o w4 w5 → OnlyWritten o v w5
+    deleted_only w4 w5 only4 only5 = written_then o v w4 w5 (put_written o v w4 (put_then v w3 w4 o opened_only only4)) only5
 
-    pub deleted_words : (w4 : View) → held_words o w4 ≡ with_table (held_words o w3) (entry_offset pn place 2) gone → held_words o w4 ≡ with_puts (held_words o v) (deletion pt place key (held_words o v))
+    pub deleted_words : (w4 : View) → held_unboxed o w4 ≡ with_table (held_unboxed o w3) (entry_offset pn place 2) gone → held_unboxed o w4 ≡ with_puts (held_unboxed o v) (deletion pt place key (held_unboxed o v))
     deleted_words w4 held4 = held4 ∙ (λ d. with_table (opened_words d) (entry_offset pn place 2) (is_gone d))
+
+    -- before that: the version is odd, and the value reads as it did
+    module _ (w4 : View) (only4 : OnlyPut o w3 w4) (held4 : held_unboxed o w4 ≡ with_table (held_unboxed o w3) (entry_offset pn place 2) gone) (low : place < rows (kind_in k.starts o) (class_of pt)) where
+      shape4 : w4.shape ≡ k
+      shape4 = only4.work.pass.shape ∙ (opened_only.work.pass.shape ∙ shape)
+
+      abbrev ver' : ℕ
+      ver' = entry_field pn (held_unboxed o v).table place 0
+
+      abbrev put4 : List ℕ
+      put4 = slice_set (slice_set (held_unboxed o v).table (entry_offset pn place 0) (ver' + 1)) (entry_offset pn place 2) (gone_kind key)
+
+      long4 : length (held_unboxed o v).table ≡ size (class_of pt)
+      long4 = table_is_long v o pt writes.root
+
+      odd4 : (ver' + 1) % 2 ≡ 1
+      odd4 =
+          let t = may.1.0.3 in
+          let kd = kind_in k.starts o in
+          let ne : (ver' + 1) % 2 ≢ 0 = λ z. true≢false (sym (t.later place low (sym (keyed_version kd writes.keyed (class_of pt) place)) z)) in
+          omega (arith, ne)
+
+      words4 : held_unboxed o w4 ≡ with_puts (held_unboxed o v) (deletion pt place key (held_unboxed o v))
+      words4 = deleted_words w4 held4
+
+      pub deleted_open : (word : ℕ) → word ≡ entry_offset pn place 4 → IsOpenValue w4 o pt word
+      deleted_open word at =
+          let kd = kind_in w4.shape.starts o in
+          let keyed : IsKeyed kd = subst (λ (z : Shape). IsKeyed (kind_in z.starts o)) (sym shape4) writes.keyed in
+          let inside : entry_offset pn place 0 < length (held_unboxed o v).table = subst (λ (n : ℕ). entry_offset pn place 0 < n) (sym long4) (keyed_low (kind_in k.starts o) writes.keyed (class_of pt) place 0 low (omega arith)) in
+          let stands : slice_index put4 (entry_offset pn place 0) ≡ ver' + 1 =
+          get_or-set_other (slice_set (held_unboxed o v).table (entry_offset pn place 0) (ver' + 1)) (entry_offset pn place 2) (entry_offset pn place 0) (gone_kind key) 0 (λ e. absurd (omega (arith, e)))
+          ∙ get_or-set_same (held_unboxed o v).table (entry_offset pn place 0) (ver' + 1) 0 inside in
+          record {
+            row = place;
+            low = subst (λ (z : Shape). place < rows (kind_in z.starts o) (class_of pt)) (sym shape4) low;
+            is = at ∙ sym (keyed_value kd keyed (class_of pt) place);
+            odd = ap (λ (i : ℕ). slice_index (held_unboxed o w4).table i % 2) (keyed_version kd keyed (class_of pt) place) ∙ (ap (λ (x : ContainerWords). slice_index x.table (entry_offset pn place 0) % 2) words4 ∙ (ap (λ (n : ℕ). n % 2) stands ∙ odd4));
+          }
+
+      pub deleted_value : entry_field pn (held_unboxed o w4).table place 4 ≡ entry_field pn (held_unboxed o v).table place 4
+      deleted_value =
+          ap (λ (x : ContainerWords). slice_index x.table (entry_offset pn place 4)) words4
+          ∙ (get_or-set_other (slice_set (held_unboxed o v).table (entry_offset pn place 0) (ver' + 1)) (entry_offset pn place 2) (entry_offset pn place 4) (gone_kind key) 0 (λ e. absurd (omega (arith, e)))
+          ∙ get_or-set_other (held_unboxed o v).table (entry_offset pn place 0) (entry_offset pn place 4) (ver' + 1) 0 (λ e. absurd (omega (arith, e))))

@@ -26,6 +26,7 @@ use Rattle.ft_trace.specs.Causes.{HasCause}
 use Rattle.ft_trace.specs.Holds.{known_state}
 use Rattle.ft_trace.specs.LoggedReads.{Between, LookedAtOne}
 use Rattle.ft_trace.specs.Pictures.{ContainerWords, Represents}
+use Rattle.ft_trace.specs.Unboxed.{unboxed}
 use Rattle.ft_trace.specs.ContainerStates.{ContainerState, state_at, kind_in, reply_in}
 use Rattle.ft_trace.proofs.Known.{mapped}
 use Rattle.ft_bank.specs.declared.pass.Pass.{Pass}
@@ -158,7 +159,7 @@ len_shown v w called o count n part ask own is s =
       mid = s.mid;
       between = between_own o s.mid part v.log w.log own s.between;
       stamp = s.counted;
-      answers = λ x stored is_kind stands agrees. len_replied kind stored o is_kind ∙ ap reply.Count (sym (agrees.block 1 count (omega arith) s.read ∙ count_is k.texts x (state_at stored o) stands));
+      answers = λ x box stored is_kind stands agrees boxes. len_replied kind stored o is_kind ∙ ap reply.Count (sym (agrees.block 1 count (omega arith) s.read ∙ count_is k.texts (unboxed box kind x) (state_at stored o) stands));
     } in
     subst (λ (z : Call). IsShown w z (reply.Count count) n) (sym is) (looks_are_shown w (len_of kind o) o (reply.Count count) n ask plain.reads plain.cursor plain.cause (plain.replied (reply.Count count) refl) looked)
 

@@ -1,6 +1,7 @@
 pub mod WordPlaces
 pub mod KnownTableWords
 pub mod Running
+pub mod BoxLoads
 mod Walking
 mod SearchEnds
 pub mod Rounding
@@ -11,6 +12,12 @@ pub mod Lengths
 pub mod Changing
 pub mod Deletions
 pub mod Puts
+pub mod Boxing
+pub mod Unboxing
+pub mod Overs
+pub mod ValueLoads
+pub mod SearchedReads
+pub mod HitBoxes
 pub mod ReadyCommits
 pub mod Laws
 pub mod Spotting

@@ -1,5 +1,5 @@
 -- What another value at a key of a dict leaves of its words, and that readers aren't misled by it.
-use Rattle.std.proofs.Common.{◌≡◌, ◌≢◌, ℕ, zero, suc, ◌+◌, ◌*◌, ◌%◌, ◌<◌, ◌≤◌, false, List, [], ◌∷◌, length, Option, Some, refl, sym, ap, ◌∙◌, subst, arith, get_or-set_other}
+use Rattle.std.proofs.Common.{◌≡◌, ◌≢◌, ℕ, zero, suc, ◌+◌, ◌*◌, ◌%◌, ◌<◌, ◌≤◌, false, List, [], ◌∷◌, length, Option, Some, None, refl, sym, ap, ◌∙◌, subst, arith, get_or-set_same}
 use Rattle.std.specs.Prelude.{All, slice_index, slice_set, slice_get}
 use Rattle.std.proofs.lemmas.Option.{slice_get_within}
 use Rattle.ft_model.specs.declared.content.Content.{Content}
@@ -26,26 +26,29 @@ use Rattle.ft_layout.proofs.Powers.{slots_range}
 use Rattle.ft_trace.specs.declared.Shape.{Shape}
 use Rattle.ft_trace.specs.declared.View.{View}
 use Rattle.ft_trace.specs.Acts.{has_committed}
+use Rattle.ft_trace.specs.Boxes.{value_at}
 use Rattle.ft_trace.specs.Addresses.{class_of, slots, places, size}
 use Rattle.ft_trace.specs.Carefuls.{HasLiveKey, said_of}
 use Rattle.ft_trace.specs.EntryWrites.{value_puts}
-use Rattle.ft_trace.specs.Holds.{held_words, known_state}
+use Rattle.ft_trace.specs.Holds.{held_unboxed, known_state}
 use Rattle.ft_trace.specs.Kinds.{under, rows, version_at, CarefulAs, ClearAs}
 use Rattle.ft_trace.specs.OddVersions.{Shut}
 use Rattle.ft_trace.specs.Traces.{IsReachable}
 use Rattle.ft_trace.specs.Pictures.{ContainerWords, root_in, entry_offset, entry_field, walk_of, Represents}
-use Rattle.ft_trace.specs.ContainerStates.{ContainerState, kind_in}
-use Rattle.ft_trace.specs.WholeWrites.{to_table, with_puts, MayPut, MayPuts}
+use Rattle.ft_trace.specs.ContainerStates.{kind_in}
+use Rattle.ft_trace.specs.WholeWrites.{to_table, to_value, with_puts, MayPut, MayPuts}
 use Rattle.ft_trace.proofs.ByKind.{keyed_low}
 use Rattle.ft_trace.proofs.DictWrites as dict
 use Rattle.ft_trace.proofs.DictWrites.{EntryVersionsChangeNothing, WordsFollowAValue, LiveEntriesArePairs, FirstEntriesArePairs}
-use Rattle.ft_trace.proofs.EntryPuts.{ver3, value_open, value_kind, value_payload, value_clear, value_late, value_shut, value_time}
+use Rattle.ft_trace.proofs.ValuePlaces.{entry_far, plain_kind}
+use Rattle.ft_trace.proofs.EntryPuts.{ver3, value_open, value_clear, value_late, value_shut, value_time}
 use Rattle.ft_trace.proofs.Known.{after_header, class_known, table_is_long}
 use Rattle.ft_bank.specs.declared.table.Table.{Table}
 use Rattle.ft_bank.specs.TableNames.{table_id}
+use Rattle.ft_bank.specs.BoxSteps.{IsOpenValue}
+use Rattle.ft_bank.specs.SameBoxes.{HoldsFew}
 use Rattle.ft_bank.specs.Whole.{OnlyPut}
 use Rattle.ft_bank.specs.WriteSteps.{IsCareful, with_table}
-use Rattle.ft_bank.proofs.KnownAfterWrites.{put_then, work_knows}
 use Rattle.ft_search.specs.OneEntryWrites.{HasTable, IsLiveEntry, MayWriteEntries, raised_at, with_value_at}
 use Rattle.ft_search.proofs.Changing.{Changing, kind_is, live_item, put_at, shut_known, table_version_put}
 use Rattle.ft_search.proofs.Puts.{table_class}
@@ -163,16 +166,17 @@ module _ (laws : ValueLaws) (texts : List ℕ) (x : ContainerWords) (tab : Table
   value_used = let low_here = slice_get_within says.used p (used_pair mine.0) mine.1 in let f = says.filled in omega (arith, low_here, f)
 
   -- the puts may be made whatever the dict had before the write
-  pub value_early : (before : Content) → MayPuts kind.Dict t before false x (value_puts n ws p value)
+  pub value_early : (before : Content) → MayPuts kind.Dict t before false x (value_puts n ws p None value)
   value_early before =
       let e = even in
       let was = under before in
       let will = under (content.Dict news) in
       let time = value_time n m ws was will p key kw pw low long even live (version_at kind.Dict c) (λ q. refl) in
-      let p3 : MayPut kind.Dict t before false (record { block = b; table = second }) (to_table (entry_offset n p 5) pw) = (names, inside 5 (omega arith), value_payload n m ws was will p key kw pw low long even live, time 5 pw (omega arith) (λ e. absurd (omega (arith, e)))) in
-      let p2 : MayPut kind.Dict t before false (record { block = b; table = opened }) (to_table (entry_offset n p 4) kw) = (names, inside 4 (omega arith), value_kind n m ws was will p key kw pw low long even live, time 4 kw (omega arith) (λ e. absurd (omega (arith, e)))) in
-      let p1 : MayPut kind.Dict t before false x (to_table (entry_offset n p 0) (ver + 1)) = (names, inside 0 (omega arith), value_open n m ws was will p key kw pw low long even live, time 0 (ver + 1) (omega arith) (λ _. omega (arith, e))) in
-      (p1, (p2, (p3, tt)))
+      let first_ = get_or-set_same ws (entry_offset n p 0) (ver + 1) 0 (omega (arith, low, long)) in
+      let odd1 : slice_index opened (entry_offset n p 0) % 2 ≡ 1 = omega (arith, first_, e) in
+      let p2 : MayPut kind.Dict t before false (record { block = b; table = opened }) (to_value None (entry_offset n p 4) (entry_offset n p 5) kw pw) = (names, (p, low, refl, omega arith, odd1), plain_kind value, λ z. refl) in
+      let p1 : MayPut kind.Dict t before false x (to_table (entry_offset n p 0) (ver + 1)) = (names, inside 0 (omega arith), value_open n m ws was will p key kw pw low long even live, time 0 (ver + 1) (omega arith) (λ _. omega (arith, e)), entry_far c p 0 (omega arith) (λ z. omega (arith, z)) (λ z. omega (arith, z))) in
+      (p1, (p2, tt))
 
   -- the words of the entry are those of the value: then it is the value at the key, and the dict is as it was
   pub same_again : entry_field n ws p 4 ≡ kw → entry_field n ws p 5 ≡ pw → dict_set pairs key value ≡ pairs
@@ -192,7 +196,7 @@ module _ (laws : ValueLaws) (texts : List ℕ) (x : ContainerWords) (tab : Table
   shut_after : Shut (λ q. entry_offset n q 0) m ws → Shut (version_at kind.Dict c) (rows kind.Dict c) (slice_set put (entry_offset n p 0) (entry_field n put p 0 + 1))
   shut_after shut = subst (λ (z : ℕ). Shut (version_at kind.Dict c) (rows kind.Dict c) (slice_set put (entry_offset n p 0) z)) next (value_shut n m ws (under (content.Dict pairs)) (under (content.Dict news)) p key kw pw low long even live shut)
 
-  pub value_changes : Shut (λ q. entry_offset n q 0) m ws → (entry_field n ws p 4 ≡ kw → entry_field n ws p 5 ≡ pw → ⊥) → Changing texts t x (record { content = content.Dict pairs; table = tab }) p (value_puts n ws p value) (record { content = content.Dict news; table = tab })
+  pub value_changes : Shut (λ q. entry_offset n q 0) m ws → (entry_field n ws p 4 ≡ kw → entry_field n ws p 5 ≡ pw → ⊥) → Changing texts t x (record { content = content.Dict pairs; table = tab }) p (value_puts n ws p None value) (record { content = content.Dict news; table = tab })
   value_changes shut other = record {
     puts = value_early (content.Dict pairs);
     clear = clear other shut;
@@ -209,24 +213,24 @@ SaysValue table place value x =
 
 -- as the pass knows the dict: another value may be put, or it is the value that is there
 pub values_known : ValueLaws → (k : Shape) (o : ℕ) (table : Table) (v : View) → v.shape ≡ k → ∥ IsReachable v ∥₁ → MayWriteEntries k o v → kind_in k.starts o ≡ kind.Dict → HasTable k o table v → (place : ℕ) (key : Key) (value : Value) → FitsStored (Plain value) → IsLiveEntry k o table place key v
-    → ((SaysValue table place value (held_words o v) → ⊥) → Changing k.texts (table_id table) (held_words o v) (known_state o v) place (value_puts (slots (class_of (table_id table))) (held_words o v).table place value) (record { content = with_value_at (known_state o v).content key value; table = (known_state o v).table }))
-    × (SaysValue table place value (held_words o v) → with_value_at (known_state o v).content key value ≡ (known_state o v).content)
+    → ((SaysValue table place value (held_unboxed o v) → ⊥) → Changing k.texts (table_id table) (held_unboxed o v) (known_state o v) place (value_puts (slots (class_of (table_id table))) (held_unboxed o v).table place None value) (record { content = with_value_at (known_state o v).content key value; table = (known_state o v).table }))
+    × (SaysValue table place value (held_unboxed o v) → with_value_at (known_state o v).content key value ≡ (known_state o v).content)
 values_known laws k o table v shape possible may is has place key value fits entry =
     by (known_state o v).content (known_state o v).table (kind_is k v o shape possible may.locked ∙ is) may.stands
     (subst (λ (z : Kind). place < rows z (class_of (table_id table))) is entry.low)
     (shut_known k v o (table_id table) shape possible may.container may.locked (may.even o) has.root)
   where
-    by : (d : Content) (u : TableUse) → kind_of d ≡ kind.Dict → Represents k.texts (held_words o v) (record { content = d; table = u }) → place < rows kind.Dict (class_of (table_id table)) → Shut (version_at (kind_of d) (class_of (table_id table))) (rows (kind_of d) (class_of (table_id table))) (held_words o v).table
-        → ((SaysValue table place value (held_words o v) → ⊥) → Changing k.texts (table_id table) (held_words o v) (record { content = d; table = u }) place (value_puts (slots (class_of (table_id table))) (held_words o v).table place value) (record { content = with_value_at d key value; table = u }))
-        × (SaysValue table place value (held_words o v) → with_value_at d key value ≡ d)
+    by : (d : Content) (u : TableUse) → kind_of d ≡ kind.Dict → Represents k.texts (held_unboxed o v) (record { content = d; table = u }) → place < rows kind.Dict (class_of (table_id table)) → Shut (version_at (kind_of d) (class_of (table_id table))) (rows (kind_of d) (class_of (table_id table))) (held_unboxed o v).table
+        → ((SaysValue table place value (held_unboxed o v) → ⊥) → Changing k.texts (table_id table) (held_unboxed o v) (record { content = d; table = u }) place (value_puts (slots (class_of (table_id table))) (held_unboxed o v).table place None value) (record { content = with_value_at d key value; table = u }))
+        × (SaysValue table place value (held_unboxed o v) → with_value_at d key value ≡ d)
     by (content.Dict pairs) u e stands low shut =
         let t = table_id table in
-        let class = class_known k.texts (held_words o v) (record { content = content.Dict pairs; table = u }) t stands has.root in
-        let says : IsDictWords k.texts (held_words o v).block (0 ∷ 0 ∷ (held_words o v).table) (Some (class_of t)) u.fill pairs = subst (λ (z : Option ℕ). IsDictWords k.texts (held_words o v).block (0 ∷ 0 ∷ (held_words o v).table) z u.fill pairs) class stands in
+        let class = class_known k.texts (held_unboxed o v) (record { content = content.Dict pairs; table = u }) t stands has.root in
+        let says : IsDictWords k.texts (held_unboxed o v).block (0 ∷ 0 ∷ (held_unboxed o v).table) (Some (class_of t)) u.fill pairs = subst (λ (z : Option ℕ). IsDictWords k.texts (held_unboxed o v).block (0 ∷ 0 ∷ (held_unboxed o v).table) z u.fill pairs) class stands in
         let long = table_is_long v o t has.root in
         let is_class = table_class k table has.table_in in (
-          λ other. value_changes laws k.texts (held_words o v) u t is_class pairs says class has.root (omega (arith, long)) place key value (shut place low) low entry.live entry.fits fits shut (λ a b. other (a, b)),
-          λ again. ap content.Dict (same_again laws k.texts (held_words o v) u t is_class pairs says class has.root (omega (arith, long)) place key value (shut place low) low entry.live entry.fits fits again.0 again.1),
+          λ other. value_changes laws k.texts (held_unboxed o v) u t is_class pairs says class has.root (omega (arith, long)) place key value (shut place low) low entry.live entry.fits fits shut (λ a b. other (a, b)),
+          λ again. ap content.Dict (same_again laws k.texts (held_unboxed o v) u t is_class pairs says class has.root (omega (arith, long)) place key value (shut place low) low entry.live entry.fits fits again.0 again.1),
         )
     by (content.Set elements) u e stands low shut = absurd (cc)
     by (content.List values) u e stands low shut = absurd (cc)
@@ -234,51 +238,33 @@ values_known laws k o table v shape possible may is has place key value fits ent
 
 -- ---- the puts, one after the other
 
-pub value_opens : (k : Shape) (o : ℕ) (table : Table) (place : ℕ) (value : Value) (v : View) → v.shape ≡ k → has_committed o v.log ≡ false → MayPuts (kind_in k.starts o) (table_id table) (known_state o v).content false (held_words o v) (value_puts (slots (class_of (table_id table))) (held_words o v).table place value)
-    → IsCareful v o (table_id table) (entry_offset (slots (class_of (table_id table))) place 0) (entry_field (slots (class_of (table_id table))) (held_words o v).table place 0 + 1)
-value_opens k o table place value v shape early may =
+pub value_opens : (k : Shape) (o : ℕ) (table : Table) (place : ℕ) (value : Value) (v : View) → v.shape ≡ k → has_committed o v.log ≡ false → HoldsFew v → MayPuts (kind_in k.starts o) (table_id table) (known_state o v).content false (held_unboxed o v) (value_puts (slots (class_of (table_id table))) (held_unboxed o v).table place None value)
+    → IsCareful v o (table_id table) (entry_offset (slots (class_of (table_id table))) place 0) (entry_field (slots (class_of (table_id table))) (held_unboxed o v).table place 0 + 1)
+value_opens k o table place value v shape early few may =
     let n = slots (class_of (table_id table)) in
-    put_at k o (table_id table) (entry_offset n place 0) (entry_field n (held_words o v).table place 0 + 1) false (held_words o v) (known_state o v).content v shape early refl refl may.0
+    put_at k o (table_id table) (entry_offset n place 0) (entry_field n (held_unboxed o v).table place 0 + 1) false (held_unboxed o v) (known_state o v).content v shape early refl refl few may.0
 
-module _ (k : Shape) (o : ℕ) (table : Table) (place : ℕ) (value : Value) (v w1 : View) (shape : v.shape ≡ k) (early : has_committed o v.log ≡ false) (only1 : OnlyPut o v w1) (held1 : held_words o w1 ≡ raised_at (table_id table) place (held_words o v))
-    (may : MayPuts (kind_in k.starts o) (table_id table) (known_state o v).content false (held_words o v) (value_puts (slots (class_of (table_id table))) (held_words o v).table place value)) where
+module _ (k : Shape) (o : ℕ) (table : Table) (place : ℕ) (value : Value) (v w1 : View) (shape : v.shape ≡ k) (only1 : OnlyPut o v w1) (held1 : held_unboxed o w1 ≡ raised_at (table_id table) place (held_unboxed o v))
+    (may : MayPuts (kind_in k.starts o) (table_id table) (known_state o v).content false (held_unboxed o v) (value_puts (slots (class_of (table_id table))) (held_unboxed o v).table place None value)) where
   abbrev pt : ℕ
   pt = table_id table
 
   abbrev pn : ℕ
   pn = slots (class_of pt)
 
-  pub first_word : (kind_word : ℕ) → kind_word ≡ stored_kind (Plain value) → IsCareful w1 o pt (entry_offset pn place 4) kind_word
-  first_word kind_word is =
-      subst (λ (z : ℕ). IsCareful w1 o pt (entry_offset pn place 4) z) (sym is)
-      (put_at k o pt (entry_offset pn place 4) (stored_kind (Plain value)) false (raised_at pt place (held_words o v)) (known_state o v).content w1 (only1.work.pass.shape ∙ shape) (only1.work.committed o ∙ early) held1 (ap (λ (z : ContainerState). z.content) (work_knows v w1 o only1.work)) may.1.0)
+  -- the value may be put over
+  pub value_is_open : (word : ℕ) → word ≡ entry_offset pn place 4 → IsOpenValue w1 o pt word
+  value_is_open word is =
+      let shape1 : w1.shape ≡ k = only1.work.pass.shape ∙ shape in
+      let r = may.1.0.1 in
+      record {
+        row = r.0;
+        low = subst (λ (z : Shape). r.0 < rows (kind_in z.starts o) (class_of pt)) (sym shape1) r.1;
+        is = is ∙ subst (λ (z : Shape). entry_offset pn place 4 ≡ value_at (kind_in z.starts o) (class_of pt) r.0) (sym shape1) r.2;
+        odd = subst (λ (z : Shape × ContainerWords). slice_index z.1.table (version_at (kind_in z.0.starts o) (class_of pt) r.0) % 2 ≡ 1) (sym (λ d. (shape1 d, held1 d))) r.4;
+      }
 
-  -- a word of the entry that the raise leaves
-  pub still_found : (w : ℕ) → 0 < w → (found : ℕ) → found ≡ entry_field pn (held_words o v).table place w → found ≡ entry_field pn (held_words o w1).table place w
-  still_found w some found is =
-      is ∙ (sym (get_or-set_other (held_words o v).table (entry_offset pn place 0) (entry_offset pn place w) (entry_field pn (held_words o v).table place 0 + 1) 0 (λ e. absurd (omega (arith, e, some))))
-      ∙ sym (ap (λ (z : ContainerWords). entry_field pn z.table place w) held1))
-
-  module _ (w2 : View) (kind_word : ℕ) (is_kind : kind_word ≡ stored_kind (Plain value)) (only2 : OnlyPut o w1 w2) (held2 : held_words o w2 ≡ with_table (held_words o w1) (entry_offset pn place 4) kind_word) where
-    abbrev with_kind : ContainerWords
-    with_kind = with_table (raised_at pt place (held_words o v)) (entry_offset pn place 4) (stored_kind (Plain value))
-
-    kind_words : held_words o w2 ≡ with_kind
-    kind_words = held2 ∙ (λ d. with_table (held1 d) (entry_offset pn place 4) (is_kind d))
-
-    kind_only : OnlyPut o v w2
-    kind_only = put_then v w1 w2 o only1 only2
-
-    pub second_word : (payload : ℕ) → payload ≡ stored_payload (Plain value) → IsCareful w2 o pt (entry_offset pn place 5) payload
-    second_word payload is =
-        subst (λ (z : ℕ). IsCareful w2 o pt (entry_offset pn place 5) z) (sym is)
-        (put_at k o pt (entry_offset pn place 5) (stored_payload (Plain value)) false with_kind (known_state o v).content w2 (kind_only.work.pass.shape ∙ shape) (kind_only.work.committed o ∙ early) kind_words (ap (λ (z : ContainerState). z.content) (work_knows v w2 o kind_only.work)) may.1.1.0)
-
-    pub found_on : (found : ℕ) → found ≡ entry_field pn (held_words o w1).table place 5 → found ≡ entry_field pn (held_words o w2).table place 5
-    found_on found is = is ∙ (sym (get_or-set_other (held_words o w1).table (entry_offset pn place 4) (entry_offset pn place 5) kind_word 0 (λ e. absurd (omega (arith, e)))) ∙ sym (ap (λ (z : ContainerWords). entry_field pn z.table place 5) held2))
-
-    pub value_only : (w3 : View) → OnlyPut o w2 w3 → OnlyPut o v w3
-    value_only w3 only3 = put_then v w2 w3 o kind_only only3
-
-    pub value_words : (w3 : View) (payload : ℕ) → payload ≡ stored_payload (Plain value) → held_words o w3 ≡ with_table (held_words o w2) (entry_offset pn place 5) payload → held_words o w3 ≡ with_puts (held_words o v) (value_puts pn (held_words o v).table place value)
-    value_words w3 payload is held3 = held3 ∙ (λ d. with_table (kind_words d) (entry_offset pn place 5) (is d))
+  pub value_words : (w2 : View) (word kind_word payload : ℕ) → word ≡ entry_offset pn place 4 → kind_word ≡ stored_kind (Plain value) → payload ≡ stored_payload (Plain value) → held_unboxed o w2 ≡ with_table (with_table (held_unboxed o w1) word kind_word) (word + 1) payload → held_unboxed o w2 ≡ with_puts (held_unboxed o v) (value_puts pn (held_unboxed o v).table place None value)
+  value_words w2 word kind_word payload at is_kind is held2 =
+      let next : word + 1 ≡ entry_offset pn place 5 = omega (arith, at) in
+      held2 ∙ (λ d. with_table (with_table (held1 d) (at d) (is_kind d)) (next d) (is d))

@@ -8,7 +8,7 @@ use Rattle.ft_trace.specs.declared.Shape.{Shape}
 use Rattle.ft_trace.specs.declared.View.{View}
 use Rattle.ft_trace.specs.Acts.{has_lock, stage, view_after}
 use Rattle.ft_trace.specs.Addresses.{container_count}
-use Rattle.ft_trace.specs.Holds.{held_words, known_state}
+use Rattle.ft_trace.specs.Holds.{held_unboxed, known_state}
 use Rattle.ft_trace.specs.BegunSections.{Begun, begun, begun_by}
 use Rattle.ft_trace.specs.Pictures.{ContainerWords, Represents}
 use Rattle.ft_trace.specs.ContainerStates.{ContainerState}
@@ -18,7 +18,8 @@ use Rattle.ft_bank.specs.Answered.{Answered}
 use Rattle.ft_bank.specs.Passes.{shape_of, view, IsPassOf}
 use Rattle.ft_bank.specs.PassSections.{stack_of}
 use Rattle.ft_bank.specs.Whole.{OnlyLoaded}
-use Rattle.ft_bank.proofs.KnownAfterWrites.{loaded_held, work_knows}
+use Rattle.ft_bank.proofs.DoneBoxes.{done_same}
+use Rattle.ft_bank.proofs.KnownAfterWrites.{work_knows}
 use Rattle.ft_section.specs.Ready.{IsStill, IsMaking}
 use Rattle.ft_section.proofs.MidstOfCall.{making_stays}
 
@@ -35,13 +36,16 @@ still_loaded v u o s =
       used = o.work.used ∙ s.used;
       owes = o.work.owes ∙ s.owes;
       flight = o.work.pass.flight ∙ s.flight;
+      boxes = done_same v u o.boxes s.boxes;
       stands = λ p low has.
-          let old = s.stands p (subst (λ (k : Shape). p < container_count k) o.work.pass.shape low) (sym (o.work.pass.locks p) ∙ has) in
-          subst (λ (x : Shape × ContainerWords × ContainerState). Represents x.0.texts x.1 x.2) (sym (λ d. (o.work.pass.shape d, loaded_held v u p o d, work_knows v u p o.work d))) old;
+          let low' = subst (λ (k : Shape). p < container_count k) o.work.pass.shape low in
+          let mine = sym (o.work.pass.locks p) ∙ has in
+          let read = o.unboxed p low' mine in
+          subst (λ (x : Shape × ContainerWords × ContainerState). Represents x.0.texts x.1 x.2) (sym (λ d. (o.work.pass.shape d, read d, work_knows v u p o.work d))) (s.stands p low' mine);
     }
 
 still_answered : (called : Call) (said : Reply) (n : ℕ) (u : View) → IsStill u → IsStill (view_after (Answer called said n) u)
-still_answered called said n u s = record { even = s.even; hands = s.hands; used = s.used; owes = s.owes; flight = s.flight; stands = s.stands }
+still_answered called said n u s = record { even = s.even; hands = s.hands; used = s.used; owes = s.owes; flight = s.flight; boxes = s.boxes; stands = s.stands }
 
 -- what the entry of a call that isn't a write leaves
 pub still_read : (called : Call) (said : Reply) (n : ℕ) (v w : View) → Answered called said n v w → IsStill v → IsStill w
@@ -60,11 +64,11 @@ making_read b p q called said n leaves m pass stack a =
     making_stays b p q m pass stack r.0 r.1 r.2 (still_read called said n (view p) (view q) a m.inside.1.still)
 
 -- what such a pass knows of a container whose lock it has
-pub making_stands : (b : Bank) (p : Pass) (texts : List ℕ) (o : ℕ) → IsMaking b p → (view p).shape.texts ≡ texts → o < container_count (view p).shape → has_lock o (view p).log ≡ true → Represents texts (held_words o (view p)) (known_state o (view p))
-making_stands b p texts o m same low mine = subst (λ (t : List ℕ). Represents t (held_words o (view p)) (known_state o (view p))) same (m.inside.1.still.stands o low mine)
+pub making_stands : (b : Bank) (p : Pass) (texts : List ℕ) (o : ℕ) → IsMaking b p → (view p).shape.texts ≡ texts → o < container_count (view p).shape → has_lock o (view p).log ≡ true → Represents texts (held_unboxed o (view p)) (known_state o (view p))
+making_stands b p texts o m same low mine = subst (λ (t : List ℕ). Represents t (held_unboxed o (view p)) (known_state o (view p))) same (m.inside.1.still.stands o low mine)
 
 -- of a container of the bank
-pub stands_in : (b : Bank) (p : Pass) (o : ℕ) → IsMaking b p → o < container_count (shape_of b) → has_lock o (view p).log ≡ true → Represents (shape_of b).texts (held_words o (view p)) (known_state o (view p))
+pub stands_in : (b : Bank) (p : Pass) (o : ℕ) → IsMaking b p → o < container_count (shape_of b) → has_lock o (view p).log ≡ true → Represents (shape_of b).texts (held_unboxed o (view p)) (known_state o (view p))
 stands_in b p o m low mine =
     let same = m.inside.0.1 in
     making_stands b p (shape_of b).texts o m (ap (λ (k : Shape). k.texts) same) (subst (λ (k : Shape). o < container_count k) (sym same) low) mine

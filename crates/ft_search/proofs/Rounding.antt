@@ -3,35 +3,40 @@ use Rattle.std.proofs.Common.{◌≡◌, ◌≢◌, ◌⊎◌, ℕ, zero, suc, �
 use Rattle.ft_model.specs.declared.data.Key.{Key}
 use Rattle.ft_layout.specs.Words.{key_kind, gone_kind, key_payload}
 use Rattle.ft_trace.specs.declared.Act.{Act}
-use Rattle.ft_trace.specs.declared.Act.TheVariants.{ReadBlock, ReadRoot, ReadTable, ReadCounter, Version}
+use Rattle.ft_trace.specs.declared.Act.TheVariants.{ReadBlock, ReadRoot, ReadTable, ReadCounter, ReadBox, Version}
 use Rattle.ft_trace.specs.declared.Shape.{Shape}
 use Rattle.ft_trace.specs.declared.View.{View}
 use Rattle.ft_trace.specs.Acts.{view_after, reads, announces}
 use Rattle.ft_trace.specs.Addresses.{class_of, slots, IsTableName}
 use Rattle.ft_trace.specs.Pictures.{entry_offset}
 use Rattle.ft_trace.specs.LoggedReads.{Among, Between}
-use Rattle.ft_trace.specs.LoggedLookUps.{Inner, IsNew, Bare}
+use Rattle.ft_trace.specs.LoggedLookUps.{Bare, Inner, IsNew}
+use Rattle.std.proofs.Math.Logic.{∥∥₁_map}
+use Rattle.ft_trace.specs.Traces.{IsReachable}
 use Rattle.ft_trace.proofs.Anew.{unread, unread_inner, unread_find, unread_less}
 use Rattle.ft_bank.specs.declared.pass.Pass.{Pass}
 use Rattle.ft_bank.specs.LastLoads.{IsLastBetween, IsLastLoad}
 use Rattle.ft_bank.specs.Passes.{view}
 use Rattle.ft_bank.specs.Series.{noted_all, DidAll}
 use Rattle.ft_bank.specs.Whole.{OnlyLoaded}
+use Rattle.ft_bank.proofs.BoxedSteps.{boxes_same}
 use Rattle.ft_bank.proofs.KnownAfterWrites.{loaded_by, loaded_then, same_work}
 use Rattle.ft_bank.proofs.LastLoads.{between_older, last_newer, last_older}
 use Rattle.ft_search.specs.declared.looks.Looked.{Looked}
 use Rattle.ft_search.specs.declared.looks.Looked.TheVariants.{Here, Absent, Contended}
 use Rattle.ft_search.specs.declared.rounds.Round.{Round}
 use Rattle.ft_search.specs.declared.rounds.Round.TheVariants.{Ended, Moved}
-use Rattle.ft_search.specs.KeyLooks.{AreLooks, EndsLook, StopsAtEntry, StopsAtContainer, ShowsLooked}
+use Rattle.ft_search.specs.KeyLooks.{AreLooks, StopsAtEntry, StopsAtContainer, ShowsLooked, EndsLook}
 use Rattle.ft_search.specs.Rounds.{EndsTable, EndsRound}
-use Rattle.ft_search.proofs.Running.{did_trans, did_log, window_of}
+use Rattle.ft_search.proofs.BoxLoads.{IsLogged, box_load, logged_before}
+use Rattle.ft_search.proofs.Running.{did_trans, did_log, noted_log, window_of}
 
 pub looks_inner : (l : List Act) → Inner l → AreLooks l
 looks_inner [] q = tt
 looks_inner (Version o f ∷ l) q = looks_inner l q
 looks_inner (ReadTable t i f ∷ l) q = looks_inner l q
 looks_inner (ReadCounter f ∷ l) q = looks_inner l q
+looks_inner (ReadBox c j f ∷ l) q = looks_inner l q
 looks_inner (act ∷ l) q = absurd q
 
 pub looks_append : (b a : List Act) → AreLooks b → AreLooks a → AreLooks (b ++ a)
@@ -41,17 +46,40 @@ looks_append (ReadBlock o i f ∷ b) a x y = looks_append b a x y
 looks_append (ReadRoot o f ∷ b) a x y = looks_append b a x y
 looks_append (ReadTable t i f ∷ b) a x y = looks_append b a x y
 looks_append (ReadCounter f ∷ b) a x y = looks_append b a x y
+looks_append (ReadBox c j f ∷ b) a x y = looks_append b a x y
 looks_append (act ∷ b) a x y = absurd x
 
 -- looks are loads and nothing else
-pub looks_load : (l : List Act) (v : View) → AreLooks l → OnlyLoaded v (noted_all l v)
-looks_load [] v q = record { work = same_work v; words = refl }
-looks_load (Version o f ∷ l) v q = loaded_then v (noted_all l v) (view_after (Version o f) (noted_all l v)) (looks_load l v q) (loaded_by (Version o f) (noted_all l v) (view_after (Version o f) (noted_all l v)) tt refl)
-looks_load (ReadBlock o i f ∷ l) v q = loaded_then v (noted_all l v) (view_after (ReadBlock o i f) (noted_all l v)) (looks_load l v q) (loaded_by (ReadBlock o i f) (noted_all l v) (view_after (ReadBlock o i f) (noted_all l v)) tt refl)
-looks_load (ReadRoot o f ∷ l) v q = loaded_then v (noted_all l v) (view_after (ReadRoot o f) (noted_all l v)) (looks_load l v q) (loaded_by (ReadRoot o f) (noted_all l v) (view_after (ReadRoot o f) (noted_all l v)) tt refl)
-looks_load (ReadTable t i f ∷ l) v q = loaded_then v (noted_all l v) (view_after (ReadTable t i f) (noted_all l v)) (looks_load l v q) (loaded_by (ReadTable t i f) (noted_all l v) (view_after (ReadTable t i f) (noted_all l v)) tt refl)
-looks_load (ReadCounter f ∷ l) v q = loaded_then v (noted_all l v) (view_after (ReadCounter f) (noted_all l v)) (looks_load l v q) (loaded_by (ReadCounter f) (noted_all l v) (view_after (ReadCounter f) (noted_all l v)) tt refl)
-looks_load (act ∷ l) v q = absurd q
+noted_shape : (l : List Act) (v : View) → (noted_all l v).shape ≡ v.shape
+noted_shape [] v = refl
+noted_shape (a ∷ l) v = noted_shape l v
+
+looks_logged : (l : List Act) (v : View) → AreLooks l → ∥ IsLogged v.shape (l ++ v.log) ∥₁ → OnlyLoaded v (noted_all l v)
+looks_logged [] v q possible = record { work = same_work v; words = refl; unboxed = λ p low mine. refl; boxes = boxes_same v }
+looks_logged (Version o f ∷ l) v q possible = loaded_then v (noted_all l v) (view_after (Version o f) (noted_all l v)) (looks_logged l v q (∥∥₁_map possible (logged_before v.shape (Version o f) (l ++ v.log)))) (loaded_by (Version o f) (noted_all l v) (view_after (Version o f) (noted_all l v)) tt refl)
+looks_logged (ReadBlock o i f ∷ l) v q possible = loaded_then v (noted_all l v) (view_after (ReadBlock o i f) (noted_all l v)) (looks_logged l v q (∥∥₁_map possible (logged_before v.shape (ReadBlock o i f) (l ++ v.log)))) (loaded_by (ReadBlock o i f) (noted_all l v) (view_after (ReadBlock o i f) (noted_all l v)) tt refl)
+looks_logged (ReadRoot o f ∷ l) v q possible = loaded_then v (noted_all l v) (view_after (ReadRoot o f) (noted_all l v)) (looks_logged l v q (∥∥₁_map possible (logged_before v.shape (ReadRoot o f) (l ++ v.log)))) (loaded_by (ReadRoot o f) (noted_all l v) (view_after (ReadRoot o f) (noted_all l v)) tt refl)
+looks_logged (ReadTable t i f ∷ l) v q possible = loaded_then v (noted_all l v) (view_after (ReadTable t i f) (noted_all l v)) (looks_logged l v q (∥∥₁_map possible (logged_before v.shape (ReadTable t i f) (l ++ v.log)))) (loaded_by (ReadTable t i f) (noted_all l v) (view_after (ReadTable t i f) (noted_all l v)) tt refl)
+looks_logged (ReadCounter f ∷ l) v q possible = loaded_then v (noted_all l v) (view_after (ReadCounter f) (noted_all l v)) (looks_logged l v q (∥∥₁_map possible (logged_before v.shape (ReadCounter f) (l ++ v.log)))) (loaded_by (ReadCounter f) (noted_all l v) (view_after (ReadCounter f) (noted_all l v)) tt refl)
+looks_logged (ReadBox c j f ∷ l) v q possible =
+    let m : View = noted_all l v in
+    let here_ : ∥ IsLogged m.shape (ReadBox c j f ∷ m.log) ∥₁ = subst (λ (x : Shape × List Act). ∥ IsLogged x.0 (ReadBox c j f ∷ x.1) ∥₁) (sym (λ d. (noted_shape l v d, noted_log l v d))) possible in
+    loaded_then v m (view_after (ReadBox c j f) m) (looks_logged l v q (∥∥₁_map possible (logged_before v.shape (ReadBox c j f) (l ++ v.log)))) (box_load m c j f here_)
+looks_logged (act ∷ l) v q possible = absurd q
+
+pub looks_load : (l : List Act) (v : View) → AreLooks l → ∥ IsReachable (noted_all l v) ∥₁ → OnlyLoaded v (noted_all l v)
+looks_load l v q possible =
+    looks_logged l v q
+    (∥∥₁_map possible (λ (x : IsReachable (noted_all l v)).
+    subst (λ (k : Shape). IsLogged k (l ++ v.log)) (noted_shape l v) (x.0, x.1, noted_all l v, x.2.0, x.2.1, noted_log l v)))
+
+-- of a pass that has made them
+pub looks_loaded : (l : List Act) (v w : View) → AreLooks l → w ≡ noted_all l v → ∥ IsReachable w ∥₁ → OnlyLoaded v w
+looks_loaded l v w q is possible = subst (OnlyLoaded v) (sym is) (looks_load l v q (subst (λ (u : View). ∥ IsReachable u ∥₁) is possible))
+
+-- of a pass
+pub looks_did : (l : List Act) (p q : Pass) → AreLooks l → DidAll l p q → OnlyLoaded (view p) (view q)
+looks_did l p q looks did = looks_loaded l (view p) (view q) looks did.1 q.possible
 
 pub looks_announce : (l rest : List Act) → AreLooks l → announces (l ++ rest) ≡ announces rest
 looks_announce [] rest q = refl
@@ -60,6 +88,7 @@ looks_announce (ReadBlock o i f ∷ l) rest q = looks_announce l rest q
 looks_announce (ReadRoot o f ∷ l) rest q = looks_announce l rest q
 looks_announce (ReadTable t i f ∷ l) rest q = looks_announce l rest q
 looks_announce (ReadCounter f ∷ l) rest q = looks_announce l rest q
+looks_announce (ReadBox c j f ∷ l) rest q = looks_announce l rest q
 looks_announce (act ∷ l) rest q = absurd q
 
 -- ---- what was found stays found
@@ -198,17 +227,17 @@ last_read o r n part old last = last_newer n (ReadRoot o r ∷ []) (part ++ old)
 pub at_bare : (k : Shape) (o : ℕ) (key : Key) (root : ℕ) (p q : Pass) (r : Round) → root ≡ 0 → EndsRound k o key 0 p q r → EndsRound k o key root p q r
 at_bare k o key root p q r none e = subst (λ (z : ℕ). EndsRound k o key z p q r) (sym none) e
 
-pub at_table : (k : Shape) (o : ℕ) (key : Key) (t : ℕ) (p q : Pass) (r : Round) (rest : List Act) → (view p).log ≡ ReadRoot o (suc t) ∷ rest → EndsTable k o key t p q r → EndsRound k o key (suc t) p q r
-at_table k o key t p q (Moved r) rest last e = (e.0, e.1, e.2, e.3, e.4)
-at_table k o key t p q (Ended (Here value_kind value n)) rest last e =
+pub at_table : (k : Shape) (o : ℕ) (key : Key) (t : ℕ) (p q : Pass) (r : Round) (rest : List Act) → (view q).shape ≡ k → (view p).log ≡ ReadRoot o (suc t) ∷ rest → EndsTable k o key t p q r → EndsRound k o key (suc t) p q r
+at_table k o key t p q (Moved r) rest shape last e = (e.0, e.1, e.2, e.3, e.4)
+at_table k o key t p q (Ended (Here value_kind value n)) rest shape last e =
+    let part = e.0 in
+    let win = window_of o t part rest p q e.2 last e.1 in
+    (ReadRoot o (suc t) ∷ part, looks_inner part e.1, e.2, (e.3.0 (view q) shape q.possible win, last_read o (suc t) n part (ReadRoot o (suc t) ∷ []) e.3.1, inl (t, part ++ ReadRoot o (suc t) ∷ [], refl)))
+at_table k o key t p q (Ended (Absent n)) rest shape last e =
     let part = e.0 in
     let win = window_of o t part rest p q e.2 last e.1 in
     (ReadRoot o (suc t) ∷ part, looks_inner part e.1, e.2, (e.3.0 (view q).log win, last_read o (suc t) n part (ReadRoot o (suc t) ∷ []) e.3.1, inl (t, part ++ ReadRoot o (suc t) ∷ [], refl)))
-at_table k o key t p q (Ended (Absent n)) rest last e =
-    let part = e.0 in
-    let win = window_of o t part rest p q e.2 last e.1 in
-    (ReadRoot o (suc t) ∷ part, looks_inner part e.1, e.2, (e.3.0 (view q).log win, last_read o (suc t) n part (ReadRoot o (suc t) ∷ []) e.3.1, inl (t, part ++ ReadRoot o (suc t) ∷ [], refl)))
-at_table k o key t p q (Ended (Contended a b)) rest last e =
+at_table k o key t p q (Ended (Contended a b)) rest shape last e =
     let part = e.0 in
     (ReadRoot o (suc t) ∷ part, looks_inner part e.1, e.2, inl (t, record { newer = []; rest = part ++ ReadRoot o (suc t) ∷ []; is = refl }, entry_in k o t key a b (ReadRoot o (suc t) ∷ []) part (ReadRoot o (suc t) ∷ []) e.3))
 

@@ -1,13 +1,13 @@
 -- Steps of a pass, one after the other, and calls on words as such steps.
 use Rattle.std.proofs.Common.{◌≡◌, ℕ, suc, List, [], ◌∷◌, ◌++◌, map, true, refl, sym, ap, ◌∙◌, subst}
 use Rattle.ft_trace.specs.declared.Act.{Act}
-use Rattle.ft_trace.specs.declared.Act.TheVariants.{ReadRoot, ReadTable, ReadCounter, Version}
+use Rattle.ft_trace.specs.declared.Act.TheVariants.{ReadRoot, ReadTable, ReadCounter, ReadBox, Version}
 use Rattle.ft_trace.specs.declared.Shape.{Shape}
 use Rattle.ft_trace.specs.declared.View.{View}
 use Rattle.ft_trace.specs.Acts.{view_after, reads, announces}
 use Rattle.ft_trace.specs.Addresses.{class_of, slots}
 use Rattle.ft_trace.specs.Pictures.{entry_offset}
-use Rattle.ft_trace.specs.LoggedLookUps.{Online, Inner, LookUpWindow}
+use Rattle.ft_trace.specs.LoggedLookUps.{Online, LookUpWindow, Inner}
 use Rattle.ft_trace.proofs.Cases.{hit}
 use Rattle.ft_keys.specs.declared.words.Access.{Access}
 use Rattle.ft_keys.specs.declared.words.Access.TheVariants.{Index, Entry, PutIndex, PutEntry, OldEntry}
@@ -82,6 +82,7 @@ inner_append [] a x y = y
 inner_append (Version o f ∷ b) a x y = inner_append b a x y
 inner_append (ReadTable t i f ∷ b) a x y = inner_append b a x y
 inner_append (ReadCounter f ∷ b) a x y = inner_append b a x y
+inner_append (ReadBox c j f ∷ b) a x y = inner_append b a x y
 inner_append (act ∷ b) a x y = absurd x
 
 pub inner_calls : (o t : ℕ) (calls : List Access) → AreLoads calls → Inner (map (access_act o t) calls)
@@ -97,6 +98,7 @@ inner_online [] q = tt
 inner_online (Version o f ∷ l) q = inner_online l q
 inner_online (ReadTable t i f ∷ l) q = inner_online l q
 inner_online (ReadCounter f ∷ l) q = inner_online l q
+inner_online (ReadBox c j f ∷ l) q = inner_online l q
 inner_online (act ∷ l) q = absurd q
 
 pub inner_announces : (l rest : List Act) → Inner l → announces (l ++ rest) ≡ announces rest
@@ -104,6 +106,7 @@ inner_announces [] rest q = refl
 inner_announces (Version o f ∷ l) rest q = inner_announces l rest q
 inner_announces (ReadTable t i f ∷ l) rest q = inner_announces l rest q
 inner_announces (ReadCounter f ∷ l) rest q = inner_announces l rest q
+inner_announces (ReadBox c j f ∷ l) rest q = inner_announces l rest q
 inner_announces (act ∷ l) rest q = absurd q
 
 -- what was done between two reads of the root that named t

@@ -11,12 +11,11 @@ use Rattle.ft_model.specs.declared.reply.Reply.{Reply}
 use Rattle.ft_model.specs.declared.script.Kind.{Kind}
 use Rattle.ft_layout.specs.Containers.{class_mask}
 use Rattle.ft_trace.specs.declared.Act.{Act}
-use Rattle.ft_trace.specs.declared.Act.TheVariants.{ReadBlock, ReadRoot, ReadTable, ReadCounter, Version, Answer}
+use Rattle.ft_trace.specs.declared.Act.TheVariants.{ReadBlock, ReadRoot, ReadTable, ReadCounter, ReadBox, Version, Answer}
 use Rattle.ft_trace.specs.declared.Shape.{Shape}
 use Rattle.ft_trace.specs.declared.View.{View}
 use Rattle.ft_trace.specs.Acts.{view_after, reads}
 use Rattle.ft_trace.specs.Addresses.{class_of, slots}
-use Rattle.ft_trace.specs.LoggedLookUps.{Inner}
 use Rattle.ft_trace.specs.Kinds.{IsKeyed}
 use Rattle.ft_trace.specs.Traces.{IsReachable}
 use Rattle.ft_trace.specs.Pictures.{entry_offset}
@@ -39,8 +38,10 @@ use Rattle.ft_search.specs.declared.looks.Looked.{Looked}
 use Rattle.ft_search.specs.declared.reading.SeenEntry.{SeenEntry}
 use Rattle.ft_search.specs.declared.rounds.Round.{Round}
 use Rattle.ft_search.specs.SearchCosts.{index_reads, indexed, LoadsNoIndex, IsRound, LoadsRounds, WalksOn, MayWalkOn, SpendsSearch, SpendsRound}
+use Rattle.ft_trace.specs.LoggedLookUps.{Inner}
 use Rattle.ft_search.specs.KeyLooks.{AreLooks}
-use Rattle.ft_search.specs.Rounds.{kind_by, entry_acts}
+use Rattle.ft_search.specs.Boxed.{box_acts}
+use Rattle.ft_search.specs.Rounds.{kind_by, entry_acts, entry_acts_as}
 use Rattle.ft_search.specs.TableWords.{CanLoad}
 use Rattle.ft_search.proofs.Bounding.{count_is, index_here, index_other, index_past, index_entry, none_append, may_more}
 use Rattle.ft_search.proofs.WordPlaces.{slots_is, slots_of_class}
@@ -51,14 +52,25 @@ use Rattle.ft_search.proofs.IndexWordsStay.{slots_stay}
 
 -- the loads of an entry between two of its version
 pub seen_none : (t place : ℕ) (seen : SeenEntry) → LoadsNoIndex (entry_acts t place seen)
-seen_none t place seen u =
-    let at = entry_offset (slots (class_of t)) place in
-    let one : List Act = ReadTable t (at 0) seen.opened ∷ [] in
-    let two : List Act = ReadTable t (at 2) seen.key_kind ∷ one in
-    let three : List Act = ReadTable t (at 4) seen.value_kind ∷ two in
-    let four : List Act = ReadTable t (at 5) seen.value ∷ three in
-    index_entry u t place 0 seen.closed (ReadCounter seen.number ∷ four)
-    ∙ (index_entry u t place 5 seen.value three ∙ (index_entry u t place 4 seen.value_kind two ∙ (index_entry u t place 2 seen.key_kind one ∙ index_entry u t place 0 seen.opened [])))
+seen_none t place seen u = by seen.value.boxed
+  where
+    by : (boxed : Bool) → indexed u (entry_acts_as boxed t place seen) ≡ []
+    by true =
+        let at = entry_offset (slots (class_of t)) place in
+        let one : List Act = ReadTable t (at 0) seen.opened ∷ [] in
+        let two : List Act = ReadTable t (at 2) seen.key_kind ∷ one in
+        let three : List Act = ReadTable t (at 4) seen.found_kind ∷ two in
+        let four : List Act = ReadTable t (at 5) seen.payload ∷ three in
+        index_entry u t place 0 seen.closed (ReadCounter seen.number ∷ (box_acts true seen.payload seen.value.kind seen.value.value ++ four))
+        ∙ (index_entry u t place 5 seen.payload three ∙ (index_entry u t place 4 seen.found_kind two ∙ (index_entry u t place 2 seen.key_kind one ∙ index_entry u t place 0 seen.opened [])))
+    by false =
+        let at = entry_offset (slots (class_of t)) place in
+        let one : List Act = ReadTable t (at 0) seen.opened ∷ [] in
+        let two : List Act = ReadTable t (at 2) seen.key_kind ∷ one in
+        let three : List Act = ReadTable t (at 4) seen.found_kind ∷ two in
+        let four : List Act = ReadTable t (at 5) seen.payload ∷ three in
+        index_entry u t place 0 seen.closed (ReadCounter seen.number ∷ four)
+        ∙ (index_entry u t place 5 seen.payload three ∙ (index_entry u t place 4 seen.found_kind two ∙ (index_entry u t place 2 seen.key_kind one ∙ index_entry u t place 0 seen.opened [])))
 
 pub versions_none : (t place a b : ℕ) → LoadsNoIndex (ReadTable t (entry_offset (slots (class_of t)) place 0) b ∷ (ReadTable t (entry_offset (slots (class_of t)) place 0) a ∷ []))
 versions_none t place a b u = index_entry u t place 0 b (ReadTable t (entry_offset (slots (class_of t)) place 0) a ∷ []) ∙ index_entry u t place 0 a []
@@ -122,6 +134,8 @@ module _ (v : View) (possible : ∥ IsReachable v ∥₁) (o t : ℕ) (keyed : I
       never_used slot low newer (mid ++ Version p f ∷ []) part (log ∙ ap (λ (z : List Act). newer ++ ReadTable t slot 0 ∷ z) (moved_by mid (Version p f) part)) (inner_append mid (Version p f ∷ []) inner tt) q
   never_used slot low newer mid (ReadCounter f ∷ part) log inner q =
       never_used slot low newer (mid ++ ReadCounter f ∷ []) part (log ∙ ap (λ (z : List Act). newer ++ ReadTable t slot 0 ∷ z) (moved_by mid (ReadCounter f) part)) (inner_append mid (ReadCounter f ∷ []) inner tt) q
+  never_used slot low newer mid (ReadBox c j f ∷ part) log inner q =
+      never_used slot low newer (mid ++ ReadBox c j f ∷ []) part (log ∙ ap (λ (z : List Act). newer ++ ReadTable t slot 0 ∷ z) (moved_by mid (ReadBox c j f) part)) (inner_append mid (ReadBox c j f ∷ []) inner tt) q
   never_used slot low newer mid (act ∷ part) log inner q = absurd q
 
   -- index words, once not 0, stay so
@@ -136,6 +150,7 @@ module _ (v : View) (possible : ∥ IsReachable v ∥₁) (o t : ℕ) (keyed : I
       by (suc x) e small log more = more
   stay_used newer (Version p f ∷ part) log q = stay_used (newer ++ Version p f ∷ []) part (log ∙ sym (append_assoc newer (Version p f ∷ []) (part ++ base))) q
   stay_used newer (ReadCounter f ∷ part) log q = stay_used (newer ++ ReadCounter f ∷ []) part (log ∙ sym (append_assoc newer (ReadCounter f ∷ []) (part ++ base))) q
+  stay_used newer (ReadBox c j f ∷ part) log q = stay_used (newer ++ ReadBox c j f ∷ []) part (log ∙ sym (append_assoc newer (ReadBox c j f ∷ []) (part ++ base))) q
   stay_used newer (act ∷ part) log q = absurd q
 
 pub kind_keyed : (way : Way) (kind : Kind) → kind ≡ kind_by way → IsKeyed kind
@@ -216,6 +231,7 @@ own_reads t (Version o f ∷ acts) rest q none = own_reads t acts rest q none
 own_reads t (ReadBlock o i f ∷ acts) rest q none = own_reads t acts rest q none
 own_reads t (ReadTable u i f ∷ acts) rest q none = own_reads t acts rest q none
 own_reads t (ReadCounter f ∷ acts) rest q none = own_reads t acts rest q none
+own_reads t (ReadBox c j f ∷ acts) rest q none = own_reads t acts rest q none
 own_reads t (act ∷ acts) rest q none = absurd q
 
 -- ---- a walk over the words of a table that the root named

@@ -18,9 +18,9 @@ use Rattle.ft_keys.specs.declared.walk.Way.{Way}
 use Rattle.ft_keys.specs.declared.walk.Way.TheVariants as way
 use Rattle.ft_trace.specs.declared.Shape.{Shape}
 use Rattle.ft_trace.specs.declared.View.{View}
-use Rattle.ft_trace.specs.Addresses.{class_of, slots}
+use Rattle.ft_trace.specs.Addresses.{class_of, container_count, slots}
 use Rattle.ft_trace.specs.Carefuls.{HasLiveKey}
-use Rattle.ft_trace.specs.Holds.{held_words, known_state}
+use Rattle.ft_trace.specs.Holds.{held_unboxed, known_state}
 use Rattle.ft_trace.specs.Kinds.{rows}
 use Rattle.ft_trace.specs.Pictures.{ContainerWords, root_in, entry_field, Represents}
 use Rattle.ft_trace.specs.ContainerStates.{ContainerState, kind_in}
@@ -31,7 +31,7 @@ use Rattle.ft_bank.specs.declared.table.Table.{Table}
 use Rattle.ft_bank.specs.TableNames.{table_id, IsTableIn}
 use Rattle.ft_bank.specs.Whole.{OnlyLoaded}
 use Rattle.ft_bank.proofs.TableAddresses.{class_is}
-use Rattle.ft_bank.proofs.KnownAfterWrites.{loaded_held, work_knows}
+use Rattle.ft_bank.proofs.KnownAfterWrites.{work_knows}
 use Rattle.ft_search.specs.declared.spots.Spot.{Spot}
 use Rattle.ft_search.specs.declared.spots.Spot.TheVariants as spot
 use Rattle.ft_search.specs.Held.{ReadsEntry, IsHeldAt}
@@ -40,6 +40,7 @@ use Rattle.ft_search.specs.Spots.{IsSpot, spot_in}
 use Rattle.ft_search.specs.OneEntryWrites.{HasTable, IsLiveEntry, KnowsEntries, MayWriteEntries}
 use Rattle.ft_search.proofs.FoundInContents.{MissingKeys, MissingElements, IsOfWay, key_held}
 use Rattle.ft_search.proofs.KnownTableWords.{entry_after_header}
+use Rattle.ft_search.proofs.Puts.{done_then}
 use Rattle.ft_search.proofs.WordPlaces.{slots_of_class}
 
 abbrev pub FirstFreeSlots : Type 0
@@ -107,10 +108,10 @@ module _ (first_pair : dict.FirstEntriesArePairs) (first_element : set.FirstEntr
   none_spent way.Dict is s = let says = dict_says is.0 is.1 in s.finds way.Dict k.texts says.used says.table low refl
   none_spent way.Set is s = let says = set_says is.0 is.1 in s.finds way.Set k.texts says.used says.table low refl
 
-module _ (missing_key : MissingKeys) (missing_element : MissingElements) (first_pair : dict.FirstEntriesArePairs) (first_element : set.FirstEntriesAreElements) (free : FirstFreeSlots) (k : Shape) (o : ℕ) (key : Key) (v : View) (by : Way) (table : Table) (in_bank : IsTableIn k table) (names : root_in (held_words o v) ≡ suc (table_id table)) (stands : Represents k.texts (held_words o v) (known_state o v))
+module _ (missing_key : MissingKeys) (missing_element : MissingElements) (first_pair : dict.FirstEntriesArePairs) (first_element : set.FirstEntriesAreElements) (free : FirstFreeSlots) (k : Shape) (o : ℕ) (key : Key) (v : View) (by : Way) (table : Table) (in_bank : IsTableIn k table) (names : root_in (held_unboxed o v) ≡ suc (table_id table)) (stands : Represents k.texts (held_unboxed o v) (known_state o v))
     (of : IsOfWay by (known_state o v).content) (kind_eq : kind_in k.starts o ≡ kind_by by) (fits : FitsKey key) (low : hash_of k.texts key < 2 ^ 64) (left : List ℕ) where
   abbrev x : ContainerWords
-  x = held_words o v
+  x = held_unboxed o v
 
   abbrev last : ℕ
   last = class_mask table.class
@@ -149,9 +150,9 @@ module _ (missing_key : MissingKeys) (missing_element : MissingElements) (first_
 pub may_knows : (k : Shape) (o : ℕ) (v : View) → MayWriteEntries k o v → KnowsEntries k o v
 may_knows k o v may = record { container = may.container; keyed = may.keyed; locked = may.locked; even = may.even o; stands = may.stands }
 
-module _ (k : Shape) (o : ℕ) (v w : View) (only : OnlyLoaded v w) where
-  same : (held_words o v ≡ held_words o w) × (known_state o v ≡ known_state o w)
-  same = (sym (loaded_held v w o only), sym (work_knows v w o only.work))
+module _ (k : Shape) (o : ℕ) (v w : View) (shape : v.shape ≡ k) (only : OnlyLoaded v w) where
+  same : KnowsEntries k o v → (held_unboxed o v ≡ held_unboxed o w) × (known_state o v ≡ known_state o w)
+  same knows = (sym (only.unboxed o (subst (λ (z : Shape). o < container_count z) (sym shape) knows.container) knows.locked), sym (work_knows v w o only.work))
 
   pub knows_loaded : KnowsEntries k o v → KnowsEntries k o w
   knows_loaded knows = record {
@@ -159,7 +160,7 @@ module _ (k : Shape) (o : ℕ) (v w : View) (only : OnlyLoaded v w) where
     keyed = knows.keyed;
     locked = only.work.pass.locks o ∙ knows.locked;
     even = only.work.pass.writes o ∙ knows.even;
-    stands = subst (λ (z : ContainerWords × ContainerState). Represents k.texts z.0 z.1) (λ d. (same.0 d, same.1 d)) knows.stands;
+    stands = subst (λ (z : ContainerWords × ContainerState). Represents k.texts z.0 z.1) (λ d. ((same knows).0 d, (same knows).1 d)) knows.stands;
   }
 
   pub may_loaded : MayWriteEntries k o v → MayWriteEntries k o w
@@ -168,33 +169,34 @@ module _ (k : Shape) (o : ℕ) (v w : View) (only : OnlyLoaded v w) where
     keyed = may.keyed;
     locked = only.work.pass.locks o ∙ may.locked;
     even = λ p. only.work.pass.writes p ∙ may.even p;
-    stands = subst (λ (z : ContainerWords × ContainerState). Represents k.texts z.0 z.1) (λ d. (same.0 d, same.1 d)) may.stands;
+    stands = subst (λ (z : ContainerWords × ContainerState). Represents k.texts z.0 z.1) (λ d. ((same (may_knows k o v may)).0 d, (same (may_knows k o v may)).1 d)) may.stands;
     owes = only.work.owes ∙ may.owes;
     left = subst (λ (z : ℕ). 0 < z) (sym only.work.left) may.left;
+    boxes = done_then k v w shape only.work.pass.shape only.boxes.references only.boxes.made may.boxes;
   }
 
-  pub table_loaded : (table : Table) → HasTable k o table v → HasTable k o table w
-  table_loaded table has = record { table_in = has.table_in; root = ap root_in (sym same.0) ∙ has.root }
+  pub table_loaded : KnowsEntries k o v → (table : Table) → HasTable k o table v → HasTable k o table w
+  table_loaded knows table has = record { table_in = has.table_in; root = ap root_in (sym (same knows).0) ∙ has.root }
 
-  entry_loaded : (table : Table) (place : ℕ) (key : Key) → IsLiveEntry k o table place key v → IsLiveEntry k o table place key w
-  entry_loaded table place key e = record {
+  entry_loaded : KnowsEntries k o v → (table : Table) (place : ℕ) (key : Key) → IsLiveEntry k o table place key v → IsLiveEntry k o table place key w
+  entry_loaded knows table place key e = record {
     low = e.low;
-    live = subst (λ (z : ContainerWords). HasLiveKey (slots (class_of (table_id table))) z.table place key) same.0 e.live;
+    live = subst (λ (z : ContainerWords). HasLiveKey (slots (class_of (table_id table))) z.table place key) (same knows).0 e.live;
     fits = e.fits;
   }
 
-  pub spot_loaded : (way : Way) (key : Key) (s : Spot) → IsSpot k o way key v s → IsSpot k o way key w s
-  spot_loaded way key (spot.At table place kind payload) s = (
-    table_loaded table s.0,
-    entry_loaded table place key s.1,
-    subst (λ (z : ContainerState). IsHeldAt z.content key (Some (kind, payload))) same.1 s.2,
-    subst (λ (z : ContainerWords). kind ≡ entry_field (slots (class_of (table_id table))) z.table place 4) same.0 s.3,
-    subst (λ (z : ContainerWords). payload ≡ entry_field (slots (class_of (table_id table))) z.table place 5) same.0 s.4,
+  pub spot_loaded : KnowsEntries k o v → (way : Way) (key : Key) (s : Spot) → IsSpot k o way key v s → IsSpot k o way key w s
+  spot_loaded knows way key (spot.At table place kind payload) s = (
+    table_loaded knows table s.0,
+    entry_loaded knows table place key s.1,
+    subst (λ (z : ContainerState). IsHeldAt z.content key (Some (kind, payload))) (same knows).1 s.2,
+    subst (λ (z : ContainerWords). kind ≡ entry_field (slots (class_of (table_id table))) z.table place 4) (same knows).0 s.3,
+    subst (λ (z : ContainerWords). payload ≡ entry_field (slots (class_of (table_id table))) z.table place 5) (same knows).0 s.4,
   )
-  spot_loaded way key (spot.Free table slot) s = (
-    table_loaded table s.0,
+  spot_loaded knows way key (spot.Free table slot) s = (
+    table_loaded knows table s.0,
     s.1,
-    subst (λ (z : ContainerWords). FirstFree (0 ∷ 0 ∷ z.table) (walk_slots way (hash_of k.texts key) (class_mask table.class)) (Some slot)) same.0 s.2,
-    subst (λ (z : ContainerState). IsHeldAt z.content key None) same.1 s.3,
+    subst (λ (z : ContainerWords). FirstFree (0 ∷ 0 ∷ z.table) (walk_slots way (hash_of k.texts key) (class_mask table.class)) (Some slot)) (same knows).0 s.2,
+    subst (λ (z : ContainerState). IsHeldAt z.content key None) (same knows).1 s.3,
   )
-  spot_loaded way key spot.Bare s = (ap root_in (sym same.0) ∙ s.0, subst (λ (z : ContainerState). IsHeldAt z.content key None) same.1 s.1)
+  spot_loaded knows way key spot.Bare s = (ap root_in (sym (same knows).0) ∙ s.0, subst (λ (z : ContainerState). IsHeldAt z.content key None) (same knows).1 s.1)

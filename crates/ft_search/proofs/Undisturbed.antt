@@ -5,10 +5,10 @@ use lib.Seq.{set-get_or}
 use Rattle.ft_model.specs.declared.script.Kind.{Kind}
 use Rattle.ft_model.specs.declared.script.Kind.TheVariants as kind
 use Rattle.ft_trace.specs.declared.Act.{Act}
-use Rattle.ft_trace.specs.declared.Act.TheVariants.{ReadBlock, ReadRoot, ReadTable, ReadCounter, Version}
+use Rattle.ft_trace.specs.declared.Act.TheVariants.{ReadBlock, ReadRoot, ReadTable, ReadCounter, ReadBox, Version}
 use Rattle.ft_trace.specs.declared.Shape.{Shape}
 use Rattle.ft_trace.specs.declared.View.{View}
-use Rattle.ft_trace.specs.Addresses.{at, block, cell, class_of, container_count, counter, slots, version_of, IsTableName}
+use Rattle.ft_trace.specs.Addresses.{box_word, at, block, cell, class_of, container_count, counter, slots, version_of, IsTableName}
 use Rattle.ft_trace.specs.Acts.{floor_words, place, Reports}
 use Rattle.ft_trace.specs.Floors.{FoundAsKnown}
 use Rattle.ft_trace.specs.Kinds.{IsKeyed, rows, version_at}
@@ -33,6 +33,7 @@ looks_tail (ReadBlock o i f) l looks = looks
 looks_tail (ReadRoot o f) l looks = looks
 looks_tail (ReadTable t i f) l looks = looks
 looks_tail (ReadCounter f) l looks = looks
+looks_tail (ReadBox c j f) l looks = looks
 looks_tail act l looks = absurd looks
 
 module _ (k : Shape) (n : ℕ) where
@@ -44,6 +45,7 @@ module _ (k : Shape) (n : ℕ) where
   words_same (ReadRoot o f ∷ part) l looks = set-get_or (floor_words k n (part ++ l)) (at k (block o 0)) 0 ∙ words_same part l looks
   words_same (ReadTable t i f ∷ part) l looks = set-get_or (floor_words k n (part ++ l)) (at k (cell t i)) 0 ∙ words_same part l looks
   words_same (ReadCounter f ∷ part) l looks = set-get_or (floor_words k n (part ++ l)) (at k counter) 0 ∙ words_same part l looks
+  words_same (ReadBox c j f ∷ part) l looks = set-get_or (floor_words k n (part ++ l)) (at k (box_word c j)) 0 ∙ words_same part l looks
   words_same (act ∷ part) l looks = absurd looks
 
   found_tail : (a : Act) (part l : List Act) → AreLooks (a ∷ part) → FoundAsKnown k n (a ∷ (part ++ l)) → FoundAsKnown k n (part ++ l)
@@ -52,6 +54,7 @@ module _ (k : Shape) (n : ℕ) where
   found_tail (ReadRoot o f) part l looks found = found.1
   found_tail (ReadTable t i f) part l looks found = found.1
   found_tail (ReadCounter f) part l looks found = found.1
+  found_tail (ReadBox c j f) part l looks found = found.1
   found_tail act part l looks found = absurd looks
 
   abbrev Tells : Act → List Act → Type 0
@@ -63,6 +66,7 @@ module _ (k : Shape) (n : ℕ) where
   found_head (ReadRoot o f) part l looks found = found.0
   found_head (ReadTable t i f) part l looks found = found.0
   found_head (ReadCounter f) part l looks found = found.0
+  found_head (ReadBox c j f) part l looks found = found.0
   found_head act part l looks found = absurd looks
 
   -- each of them found what is there before them, and so after them

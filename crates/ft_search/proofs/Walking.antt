@@ -9,11 +9,11 @@ use Rattle.ft_layout.specs.Words.{gone_kind}
 use Rattle.ft_trace.specs.declared.Act.{Act}
 use Rattle.ft_trace.specs.declared.Act.TheVariants.{ReadTable}
 use Rattle.ft_trace.specs.declared.Shape.{Shape}
-use Rattle.ft_trace.specs.Addresses.{class_of, slots}
+use Rattle.ft_trace.specs.Addresses.{container_count, class_of, slots}
 use Rattle.ft_trace.specs.Pictures.{entry_offset, walk_of}
-use Rattle.ft_trace.specs.Kinds.{rows}
+use Rattle.ft_trace.specs.Kinds.{rows, IsKeyed}
 use Rattle.ft_trace.specs.ContainerStates.{kind_in}
-use Rattle.ft_trace.specs.LoggedLookUps.{Inner, OtherKind, OtherPayload, Dead, Visit, Beyond, Passed}
+use Rattle.ft_trace.specs.LoggedLookUps.{OtherKind, OtherPayload, Dead, Visit, Beyond, Passed, Inner}
 use Rattle.ft_bank.specs.declared.pass.Pass.{Pass}
 use Rattle.ft_bank.specs.Series.{DidAll}
 use Rattle.ft_search.specs.declared.looks.Looked.{Looked}
@@ -73,11 +73,13 @@ module _ (k : Shape) (o t : ℕ) (key : Key) where
   abbrev m : ℕ
   m = rows (kind_in k.starts o) (class_of t)
 
-  pub walked_none : (left : List ℕ) → left ≡ walk_of (kind_in k.starts o) k.texts (class_of t) key → Walked k o t key [] left
-  walked_none left is = record { passed = []; split = sym is; rightly = All-nil (λ slot. Passed [] t m slot key) }
+  pub walked_none : o < container_count k → IsKeyed (kind_in k.starts o) → (left : List ℕ) → left ≡ walk_of (kind_in k.starts o) k.texts (class_of t) key → Walked k o t key [] left
+  walked_none low keyed left is = record { container = low; keyed = keyed; passed = []; split = sym is; rightly = All-nil (λ slot. Passed [] t m slot key) }
 
   pub walked_more : (left : List ℕ) (new part : List Act) → Walked k o t key part left → Walked k o t key (new ++ part) left
   walked_more left new part w = record {
+    container = w.container;
+    keyed = w.keyed;
     passed = w.passed;
     split = w.split;
     rightly = All-weaker (λ slot. Passed part t m slot key) (λ slot. Passed (new ++ part) t m slot key) (λ slot p. passed_more t m slot key new part p) w.passed w.rightly;
@@ -86,6 +88,8 @@ module _ (k : Shape) (o t : ℕ) (key : Key) where
   -- and one more slot was passed
   pub walked_past : (slot : ℕ) (left : List ℕ) (part : List Act) → Walked k o t key part (slot ∷ left) → Passed part t m slot key → Walked k o t key part left
   walked_past slot left part w p = record {
+    container = w.container;
+    keyed = w.keyed;
     passed = w.passed ++ slot ∷ [];
     split = w.split ∙ sym (append_assoc w.passed (slot ∷ []) left);
     rightly = All-push (λ slot. Passed part t m slot key) w.passed slot w.rightly p;

@@ -9,13 +9,13 @@ use Rattle.ft_keys.specs.declared.search.Found.{Found}
 use Rattle.ft_keys.specs.declared.search.Found.TheVariants as found
 use Rattle.ft_trace.specs.declared.View.{View}
 use Rattle.ft_trace.specs.Acts.{has_lock}
-use Rattle.ft_trace.specs.Holds.{held_words}
+use Rattle.ft_trace.specs.Holds.{held_unboxed}
 use Rattle.ft_trace.specs.Kinds.{under}
 use Rattle.ft_trace.specs.Pictures.{root_in}
 
 -- the pass has the lock of the container o, whose root names the table t
 abbrev pub KnowsTable : ℕ → ℕ → View → Type 0
-KnowsTable o t v = (has_lock o v.log ≡ true) × (root_in (held_words o v) ≡ suc t)
+KnowsTable o t v = (has_lock o v.log ≡ true) × (root_in (held_unboxed o v) ≡ suc t)
 
 -- the kind and the payload of the value were read, where a search ended at an entry
 abbrev pub ReadsEntry : ℕ → List ℕ → Found → Option (ℕ × ℕ) → Type 0

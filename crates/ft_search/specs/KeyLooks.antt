@@ -3,7 +3,7 @@ use Rattle.std.specs.Prelude.{◌≡◌, ◌≢◌, ◌⊎◌, ℕ, suc, ◌%◌
 use Rattle.ft_model.specs.declared.data.Key.{Key}
 use Rattle.ft_layout.specs.Words.{key_kind, gone_kind, key_payload}
 use Rattle.ft_trace.specs.declared.Act.{Act}
-use Rattle.ft_trace.specs.declared.Act.TheVariants.{ReadBlock, ReadRoot, ReadTable, ReadCounter, Version}
+use Rattle.ft_trace.specs.declared.Act.TheVariants.{ReadBlock, ReadRoot, ReadTable, ReadCounter, ReadBox, Version}
 use Rattle.ft_trace.specs.declared.Shape.{Shape}
 use Rattle.ft_trace.specs.Addresses.{class_of, slots}
 use Rattle.ft_trace.specs.Pictures.{entry_offset}
@@ -22,7 +22,7 @@ use Rattle.ft_bank.specs.Answered.{Answered}
 use Rattle.ft_bank.specs.LastLoads.{IsLastBetween, IsLastLoad}
 use Rattle.ft_bank.specs.Whole.{OnlyLoaded}
 
--- only loads of versions, words of blocks and tables, and the counter
+-- only loads of versions, words of blocks, tables and boxes, and the counter
 abbrev pub AreLooks : List Act → Type 0
 AreLooks [] = Unit {0}
 AreLooks (Version o f ∷ l) = AreLooks l
@@ -30,6 +30,7 @@ AreLooks (ReadBlock o i f ∷ l) = AreLooks l
 AreLooks (ReadRoot o f ∷ l) = AreLooks l
 AreLooks (ReadTable t i f ∷ l) = AreLooks l
 AreLooks (ReadCounter f ∷ l) = AreLooks l
+AreLooks (ReadBox b i f ∷ l) = AreLooks l
 AreLooks (act ∷ l) = ⊥
 
 -- The log shows that the key was there when the counter was n: the search met its entry, and between two loads of the

@@ -9,3 +9,4 @@ pub mod MadeCalls
 pub mod SearchCosts
 pub mod Stays
 pub mod Floors
+pub mod Boxed

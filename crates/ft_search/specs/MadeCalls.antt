@@ -12,6 +12,7 @@ use Rattle.ft_trace.specs.Acts.{stage, debt}
 use Rattle.ft_trace.specs.Causes.{HasCause}
 use Rattle.ft_trace.specs.ContainerStates.{reply_in}
 use Rattle.ft_bank.specs.Answered.{Answered}
+use Rattle.ft_bank.specs.SameBoxes.{SameReferences}
 use Rattle.ft_bank.specs.Whole.{Wrote}
 use Rattle.ft_bank.specs.WriteSteps.{MayHave}
 use Rattle.ft_section.specs.declared.answers.Stamp.{Stamp}
@@ -30,10 +31,11 @@ pub record IsShownBy (called : Call) (said : Reply) (v : View) : Type 0 where
   pub replied : IsReplyTo called said v
   pub cause : (stored : StoredWorld) (log : List Act) (n : ℕ) → HasCause stored log called said n
 
--- no table came into the pass's hands, and none left them (profile)
+-- no table came into the pass's hands, and none left them; it holds the same references of boxes (profile)
 pub record KeepsTables (v w : View) : Type 0 where
   pub hands : (t : ℕ) → stage t w.log ≡ stage t v.log
   pub debt : debt w.log ≡ debt v.log
+  pub references : SameReferences v w
 
 -- A pass with the locks of a call made it, as one whole write, or as an entry that isn't a write at a load of the
 -- counter. Its reply is the one of the plain containers, and it is a write where the call is of a changing kind and the

@@ -15,10 +15,11 @@ use Rattle.ft_trace.specs.declared.Shape.{Shape}
 use Rattle.ft_trace.specs.declared.View.{View}
 use Rattle.ft_trace.specs.Addresses.{container_count, class_of, slots}
 use Rattle.ft_trace.specs.Acts.{has_lock, is_writing, owes}
+use Rattle.ft_trace.specs.Boxes.{IsDoneWithBoxes}
 use Rattle.ft_trace.specs.Carefuls.{HasLiveKey}
 use Rattle.ft_trace.specs.DeleteWrites.{delete_puts}
 use Rattle.ft_trace.specs.FitCalls.{FitsCall}
-use Rattle.ft_trace.specs.Holds.{held_words, known_state}
+use Rattle.ft_trace.specs.Holds.{held_unboxed, known_state}
 use Rattle.ft_trace.specs.Kinds.{rows, version_at, CarefulAs, IsKeyed}
 use Rattle.ft_trace.specs.OddVersions.{Shut}
 use Rattle.ft_trace.specs.BegunSections.{HasLocksOf}
@@ -38,33 +39,36 @@ pub record KnowsEntries (k : Shape) (o : ℕ) (v : View) : Type 0 where
   pub keyed : IsKeyed (kind_in k.starts o)
   pub locked : has_lock o v.log ≡ true
   pub even : is_writing o v.log ≡ false
-  pub stands : Represents k.texts (held_words o v) (known_state o v)
+  pub stands : Represents k.texts (held_unboxed o v) (known_state o v)
 
 -- The pass may write the container o, a dict or a set: it has its lock, and its words stand for what the pass knows of
--- it; it writes no container, has lowered no count of a class that it hasn't raised again, and has a call left.
--- (profile)
+-- it; it writes no container, has lowered no count of a class that it hasn't raised again, holds no reference for a box
+-- and makes none, and has a call left. (profile)
 pub record MayWriteEntries (k : Shape) (o : ℕ) (v : View) : Type 0 where
   pub container : o < container_count k
   pub keyed : IsKeyed (kind_in k.starts o)
   pub locked : has_lock o v.log ≡ true
   pub even : (p : ℕ) → is_writing p v.log ≡ false
-  pub stands : Represents k.texts (held_words o v) (known_state o v)
+  pub stands : Represents k.texts (held_unboxed o v) (known_state o v)
   pub owes : owes v.log ≡ 0
+  pub boxes : IsDoneWithBoxes k v.log
   pub left : 0 < v.left
 
 -- the root of the container names this table
 pub record HasTable (k : Shape) (o : ℕ) (table : Table) (v : View) : Type 0 where
   pub table_in : IsTableIn k table
-  pub root : root_in (held_words o v) ≡ suc (table_id table)
+  pub root : root_in (held_unboxed o v) ≡ suc (table_id table)
 
--- The pass writes the container o, a dict or a set, whose root names the table. (profile)
+-- The pass writes the container o, a dict or a set, whose root names the table; it holds no reference for a box and
+-- makes none. (profile)
 pub record WritesEntries (k : Shape) (o : ℕ) (table : Table) (v : View) : Type 0 where
   pub container : o < container_count k
   pub keyed : IsKeyed (kind_in k.starts o)
   pub table_in : IsTableIn k table
   pub locked : has_lock o v.log ≡ true
   pub odd : is_writing o v.log ≡ true
-  pub root : root_in (held_words o v) ≡ suc (table_id table)
+  pub root : root_in (held_unboxed o v) ≡ suc (table_id table)
+  pub boxes : IsDoneWithBoxes k v.log
 
 -- A call is a write of the container o that takes no table: the plain containers reply so to it, whatever else the bank
 -- has that agrees with what the pass knows, and o has this content and this table then; the pass has the locks of the
@@ -82,7 +86,7 @@ pub record Leaves (o : ℕ) (called : Call) (said : Reply) (left : ContainerStat
 -- the place is one of an entry of the container's table that is there with this key
 pub record IsLiveEntry (k : Shape) (o : ℕ) (table : Table) (place : ℕ) (key : Key) (v : View) : Type 0 where
   pub low : place < rows (kind_in k.starts o) (class_of (table_id table))
-  pub live : HasLiveKey (slots (class_of (table_id table))) (held_words o v).table place key
+  pub live : HasLiveKey (slots (class_of (table_id table))) (held_unboxed o v).table place key
   pub fits : FitsKey key
 
 -- what a dict or a set has once a key is taken out (Python manual, Mapping Types, Set Types)
@@ -105,14 +109,14 @@ pub record MayFinish (o : ℕ) (table : Table) (place : ℕ) (called : Call) (sa
   pub changed : changes called ≡ o
   pub left : ContainerState
   pub left_is : (stored : StoredWorld) → MayHave v stored → state_at (after_stored stored called) o ≡ left
-  pub odd : entry_field (slots (class_of (table_id table))) (held_words o v).table place 0 % 2 ≡ 1
-  pub close : CarefulAs (kind_in v.shape.starts o) (class_of (table_id table)) (held_words o v).table left.content
+  pub odd : entry_field (slots (class_of (table_id table))) (held_unboxed o v).table place 0 % 2 ≡ 1
+  pub close : CarefulAs (kind_in v.shape.starts o) (class_of (table_id table)) (held_unboxed o v).table left.content
       (entry_offset (slots (class_of (table_id table))) place 0)
-      (entry_field (slots (class_of (table_id table))) (held_words o v).table place 0 + 1)
-  pub stands : Represents v.shape.texts (raised_at (table_id table) place (held_words o v)) left
+      (entry_field (slots (class_of (table_id table))) (held_unboxed o v).table place 0 + 1)
+  pub stands : Represents v.shape.texts (raised_at (table_id table) place (held_unboxed o v)) left
   pub shut : Shut (version_at (kind_in v.shape.starts o) (class_of (table_id table)))
       (rows (kind_in v.shape.starts o) (class_of (table_id table)))
-      (raised_at (table_id table) place (held_words o v)).table
+      (raised_at (table_id table) place (held_unboxed o v)).table
 
 -- What a deletion puts before the commit: it counts one pair or element fewer, makes the version of the entry odd, and
 -- then changes the kind of its key to that of a deleted one. (profile)

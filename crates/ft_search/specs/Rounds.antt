@@ -1,5 +1,5 @@
 -- What one round of a look-up comes to: a search of the table that a root named, or a look where it named none.
-use Rattle.std.specs.Prelude.{◌≡◌, ◌≢◌, ◌⊎◌, ℕ, suc, ◌≤◌, false, List, [], ◌∷◌, ◌++◌, drop, All, Option, Some, None}
+use Rattle.std.specs.Prelude.{◌≡◌, ◌≢◌, ◌⊎◌, ℕ, suc, ◌<◌, ◌≤◌, Bool, false, List, [], ◌∷◌, ◌++◌, drop, All, Option, Some, None}
 use Rattle.ft_model.specs.declared.data.Key.{Key}
 use Rattle.ft_layout.specs.Words.{key_kind, key_payload}
 use Rattle.ft_model.specs.declared.script.Kind.{Kind}
@@ -8,13 +8,15 @@ use Rattle.ft_keys.specs.declared.walk.Way.{Way}
 use Rattle.ft_keys.specs.declared.walk.Way.TheVariants as way
 use Rattle.ft_trace.specs.declared.Act.{Act}
 use Rattle.ft_trace.specs.declared.Act.TheVariants.{ReadRoot, ReadTable, ReadCounter}
+use Rattle.ft_trace.specs.declared.View.{View}
+use Rattle.ft_trace.specs.Traces.{IsReachable}
 use Rattle.ft_trace.specs.declared.Shape.{Shape}
 use Rattle.ft_trace.specs.Acts.{reads}
-use Rattle.ft_trace.specs.Addresses.{class_of, slots, IsTableName}
+use Rattle.ft_trace.specs.Addresses.{class_of, container_count, slots, IsTableName}
 use Rattle.ft_trace.specs.Pictures.{entry_offset, walk_of}
-use Rattle.ft_trace.specs.Kinds.{rows}
+use Rattle.ft_trace.specs.Kinds.{rows, IsKeyed}
 use Rattle.ft_trace.specs.ContainerStates.{kind_in}
-use Rattle.ft_trace.specs.LoggedLookUps.{Inner, Passed, LookUpWindow}
+use Rattle.ft_trace.specs.LoggedLookUps.{Passed, LookUpWindow, Inner}
 use Rattle.ft_bank.specs.declared.pass.Pass.{Pass}
 use Rattle.ft_bank.specs.LastLoads.{IsLastLoad}
 use Rattle.ft_bank.specs.Passes.{view}
@@ -28,6 +30,7 @@ use Rattle.ft_search.specs.declared.rounds.Loaded.TheVariants.{Used, Free}
 use Rattle.ft_search.specs.declared.rounds.Round.{Round}
 use Rattle.ft_search.specs.declared.rounds.Round.TheVariants.{Ended, Moved}
 use Rattle.ft_search.specs.declared.reading.SeenEntry.{SeenEntry}
+use Rattle.ft_search.specs.Boxed.{box_acts}
 use Rattle.ft_search.specs.KeyLooks.{AreLooks, ShowsHere, ShowsAbsent, StopsAtEntry, ShowsLooked}
 
 -- the kind of the containers that are searched this way
@@ -36,17 +39,23 @@ kind_by way.Dict = kind.Dict
 kind_by way.Set = kind.Set
 
 -- the loads of an entry between two loads of its version, newest first
-abbrev pub entry_acts : ℕ → ℕ → SeenEntry → List Act
-entry_acts t place seen =
+abbrev pub entry_acts_as : Bool → ℕ → ℕ → SeenEntry → List Act
+entry_acts_as boxed t place seen =
     ReadTable t (entry_offset (slots (class_of t)) place 0) seen.closed
     ∷ (ReadCounter seen.number
-    ∷ (ReadTable t (entry_offset (slots (class_of t)) place 5) seen.value
-    ∷ (ReadTable t (entry_offset (slots (class_of t)) place 4) seen.value_kind
+    ∷ (box_acts boxed seen.payload seen.value.kind seen.value.value
+    ++ (ReadTable t (entry_offset (slots (class_of t)) place 5) seen.payload
+    ∷ (ReadTable t (entry_offset (slots (class_of t)) place 4) seen.found_kind
     ∷ (ReadTable t (entry_offset (slots (class_of t)) place 2) seen.key_kind
-    ∷ (ReadTable t (entry_offset (slots (class_of t)) place 0) seen.opened ∷ [])))))
+    ∷ (ReadTable t (entry_offset (slots (class_of t)) place 0) seen.opened ∷ []))))))
+
+abbrev pub entry_acts : ℕ → ℕ → SeenEntry → List Act
+entry_acts t place seen = entry_acts_as seen.value.boxed t place seen
 
 -- these slots of the key's probe are left, and the others were passed by right
 pub record Walked (k : Shape) (o t : ℕ) (key : Key) (part : List Act) (left : List ℕ) : Type 0 where
+  pub container : o < container_count k
+  pub keyed : IsKeyed (kind_in k.starts o)
   pub passed : List ℕ
   pub split : walk_of (kind_in k.starts o) k.texts (class_of t) key ≡ passed ++ left
   pub rightly : All (λ slot. Passed part t (rows (kind_in k.starts o) (class_of t)) slot key) passed
@@ -54,7 +63,7 @@ pub record Walked (k : Shape) (o t : ℕ) (key : Key) (part : List Act) (left : 
 -- what these loads of the table t show of the key, once the root is read again and still names the table
 abbrev pub ClosesAt : Shape → ℕ → ℕ → Key → List Act → Looked → Type 0
 ClosesAt k o t key part (Here value_kind value n) =
-    ((log : List Act) → LookUpWindow log o t part → ShowsHere k o key value_kind value n log)
+    ((w : View) → w.shape ≡ k → ∥ IsReachable w ∥₁ → LookUpWindow w.log o t part → ShowsHere k o key value_kind value n w.log)
     × IsLastLoad n part
 ClosesAt k o t key part (Absent n) =
     ((log : List Act) → LookUpWindow log o t part → ShowsAbsent k o key n log) × IsLastLoad n part

@@ -11,7 +11,7 @@ use Rattle.ft_keys.specs.Ways.{walk_slots}
 use Rattle.ft_trace.specs.declared.Shape.{Shape}
 use Rattle.ft_trace.specs.declared.View.{View}
 use Rattle.ft_trace.specs.Addresses.{class_of, slots}
-use Rattle.ft_trace.specs.Holds.{held_words, known_state}
+use Rattle.ft_trace.specs.Holds.{held_unboxed, known_state}
 use Rattle.ft_trace.specs.Pictures.{root_in, entry_field}
 use Rattle.ft_bank.specs.declared.table.Table.{Table}
 use Rattle.ft_bank.specs.TableNames.{table_id}
@@ -32,11 +32,11 @@ abbrev pub IsSpot : Shape → ℕ → Way → Key → View → Spot → Type 0
 IsSpot k o way key v (spot.At table place kind payload) =
     HasTable k o table v × IsLiveEntry k o table place key v
     × IsHeldAt (known_state o v).content key (Some (kind, payload))
-    × (kind ≡ entry_field (slots (class_of (table_id table))) (held_words o v).table place 4)
-    × (payload ≡ entry_field (slots (class_of (table_id table))) (held_words o v).table place 5)
+    × (kind ≡ entry_field (slots (class_of (table_id table))) (held_unboxed o v).table place 4)
+    × (payload ≡ entry_field (slots (class_of (table_id table))) (held_unboxed o v).table place 5)
 IsSpot k o way key v (spot.Free table slot) =
     HasTable k o table v × (slot ≤ class_mask table.class)
-    × FirstFree (0 ∷ 0 ∷ (held_words o v).table)
+    × FirstFree (0 ∷ 0 ∷ (held_unboxed o v).table)
     (walk_slots way (hash_of k.texts key) (class_mask table.class)) (Some slot)
     × IsHeldAt (known_state o v).content key None
-IsSpot k o way key v spot.Bare = (root_in (held_words o v) ≡ 0) × IsHeldAt (known_state o v).content key None
+IsSpot k o way key v spot.Bare = (root_in (held_unboxed o v) ≡ 0) × IsHeldAt (known_state o v).content key None

@@ -6,7 +6,9 @@ use Rattle.ft_trace.specs.declared.Act.TheVariants.{ReadTable, PutTable}
 use Rattle.ft_trace.specs.Addresses.{container_count, class_of, size, slots}
 use Rattle.ft_trace.specs.Acts.{has_lock, is_writing}
 use Rattle.ft_trace.specs.Pictures.{entry_offset, root_in}
-use Rattle.ft_trace.specs.Holds.{held_words, known_state}
+use Rattle.ft_trace.specs.ContainerStates.{kind_in}
+use Rattle.ft_trace.specs.WholeWrites.{IsNoValue}
+use Rattle.ft_trace.specs.Holds.{held_words, held_unboxed, known_state}
 use Rattle.ft_keys.specs.declared.words.Access.{Access}
 use Rattle.ft_keys.specs.declared.words.Access.TheVariants.{Index, Entry, PutIndex, PutEntry, OldEntry}
 use Rattle.ft_keys.specs.Accesses.{Tells, put_by}
@@ -58,6 +60,19 @@ KnowsWords s =
 abbrev pub known_words : TableWords → List ℕ
 known_words s = 0 ∷ 0 ∷ (held_words s.o (view s.pass.now)).table
 
+-- and what they read through boxes
+abbrev pub read_words : TableWords → List ℕ
+read_words s = 0 ∷ 0 ∷ (held_unboxed s.o (view s.pass.now)).table
+
+-- the call puts no word of a value
+abbrev pub PutsNoValue : TableWords → Access → Type 0
+PutsNoValue s (PutIndex slot value) =
+    IsNoValue (kind_in (shape_of s.bank.now).starts s.o) (class_of (table_id s.table)) slot
+PutsNoValue s (PutEntry place word value) =
+    IsNoValue (kind_in (shape_of s.bank.now).starts s.o) (class_of (table_id s.table))
+    (entry_offset (slots (class_of (table_id s.table))) place word)
+PutsNoValue s access = Unit {0}
+
 -- words may be put while the pass writes the container
 abbrev pub MayPutAny : TableWords → Type 0
 MayPutAny s = KnowsWords s × (is_writing s.o (view s.pass.now).log ≡ true)
@@ -71,7 +86,8 @@ MayMake s (PutEntry place word value) =
 MayMake s access = Unit {0}
 
 -- The call was one step of the bank. Where the pass knows the words, they answered it, and have what it put; so did
--- those of each container whose lock the pass has and whose root names the table.
+-- those of each container whose lock the pass has and whose root names the table. A word that is put and is no value's
+-- is put in what they read, too.
 pub record MadeAccess (s : TableWords) (access : Access) (t : TableWords) : Type 0 where
   pub same : SamePlace s t
   pub inside : IsInside (table_id s.table) access
@@ -83,4 +99,7 @@ pub record MadeAccess (s : TableWords) (access : Access) (t : TableWords) : Type
   pub left : KnowsWords s → KnowsWords t × (known_words t ≡ put_by s.mask access (known_words s))
       × ((held_words s.o (view t.pass.now)).block ≡ (held_words s.o (view s.pass.now)).block)
       × (known_state s.o (view t.pass.now) ≡ known_state s.o (view s.pass.now))
+  pub reads : KnowsWords s → PutsNoValue s access
+      → (read_words t ≡ put_by s.mask access (read_words s))
+      × ((held_unboxed s.o (view t.pass.now)).block ≡ (held_unboxed s.o (view s.pass.now)).block)
   pub only : OnlyPut s.o (view s.pass.now) (view t.pass.now)

@@ -11,7 +11,7 @@ ghost use Rattle.ft_keys.specs.declared.walk.Way.{Way};
 ghost use Rattle.ft_trace.specs.declared.Act.{Act};
 ghost use Rattle.ft_trace.specs.Acts.{has_lock};
 ghost use Rattle.ft_trace.specs.Addresses.{container_count};
-ghost use Rattle.ft_trace.specs.Holds.{held_words, known_state};
+ghost use Rattle.ft_trace.specs.Holds.{held_unboxed, known_state};
 ghost use Rattle.ft_trace.specs.Pictures.{Represents};
 ghost use Rattle.ft_trace.specs.ContainerStates.{kind_in};
 ghost use Rattle.ft_bank.specs.KeyHashes.{IsKeyIn};
@@ -23,9 +23,11 @@ ghost use Rattle.ft_search.specs.SearchCosts.{AreFewReads, index_reads};
 ghost use Rattle.ft_search.specs.Held.{KnowsTable, ReadsEntry, IsHeldAt};
 ghost use Rattle.ft_search.specs.KeyLooks.{AreLooks};
 ghost use Rattle.ft_search.specs.Rounds.{kind_by};
-ghost use Rattle.ft_search.specs.TableWords.{CanLoad, SamePlace, KnowsWords, known_words};
+ghost use Rattle.ft_search.specs.TableWords.{CanLoad, SamePlace, KnowsWords, known_words, read_words};
 
+use crate::boxed::{BOX_KIND, named_boxes_are_known, read_value};
 use crate::look::key_fits;
+use crate::rounds::entries_of;
 use crate::tables::{mask_of, table_at};
 use crate::words::TableWords;
 use ft_bank::{Bank, Pass, Table};
@@ -61,23 +63,32 @@ impl<'a> TableWords<'a> {
         find_live(self, walk, key, &mut steps)
     }
 
-    /// The words of the value of the entry at which a search ended, if it ended at one.
+    /// What the value reads of the entry at which a search ended, if it ended at one. A value that names a box has the
+    /// kind and the payload that stand there.
     #[inline(always)]
-    fn read_found(&mut self, found: Found) -> Option<(u64, u64)>
+    fn read_found(&mut self, way: Way, found: Found) -> Option<(u64, u64)>
         requires can { CanLoad self.old }
+        requires way { kind_in (shape_of self.old.bank.now).starts self.old.o ≡ kind_by way }
         requires knows { KnowsWords self.old }
         requires within { IsWithin self.old.mask found }
         ensures can { CanLoad self.new }
         ensures same { SamePlace self.old self.new }
         ensures looks { (part : List Act) × AreLooks part × DidAll part self.old.pass.now self.new.pass.now
             × ((t : ℕ) → index_reads t part ≡ 0) }
-        ensures reads { ReadsEntry self.old.mask (known_words self.old) found result }
+        ensures reads { ReadsEntry self.old.mask (read_words self.old) found result }
     {
         match found {
             Found::At(_, place) => {
                 let kind = self.entry(place, VALUE_KIND);
                 let payload = self.entry(place, VALUE);
-                Some((kind, payload))
+                if kind != BOX_KIND {
+                    return Some((kind, payload));
+                }
+                let entries = entries_of(way, self.table.class);
+                if entries <= place {
+                    return Some((kind, payload));
+                }
+                Some(read_value(self.bank, self.pass, kind, payload))
             }
             Found::Was(_, _) => None,
             Found::Free(_) => None,
@@ -89,6 +100,7 @@ impl<'a> TableWords<'a> {
     #[inline(always)]
     fn read_held(&mut self, way: Way, key: Key, hash: u64) -> (Found, Option<(u64, u64)>)
         requires can { CanLoad self.old }
+        requires way { kind_in (shape_of self.old.bank.now).starts self.old.o ≡ kind_by way }
         requires knows { KnowsWords self.old }
         ensures can { CanLoad self.new }
         ensures same { SamePlace self.old self.new }
@@ -98,11 +110,11 @@ impl<'a> TableWords<'a> {
         ensures searched { (left : List ℕ)
             × Searched self.old.mask (known_words self.old) key (walk_slots way hash self.old.mask) left result.0
             × ((slot place : ℕ) → result.0 ≢ Was slot place)
-            × ReadsEntry self.old.mask (known_words self.old) result.0 result.1 }
+            × ReadsEntry self.old.mask (read_words self.old) result.0 result.1 }
     {
         let mut walk = Walk::new(way, hash, self.mask);
         let found = self.seek_held::<Brand>(&mut walk, key, Blank::new(1));
-        let read = self.read_found(found);
+        let read = self.read_found(way, found);
         (found, read)
     }
 }
@@ -121,6 +133,7 @@ pub fn read_by(
 ) -> (Found, Option<(u64, u64)>)
     requires pass { IsPassOf bank.now pass.old }
     requires container { o < container_count (shape_of bank.now) }
+    requires way { kind_in (shape_of bank.now).starts o ≡ kind_by way }
     requires hash { hash ≡ hash_of (shape_of bank.now).texts key }
     requires table { IsTableIn (shape_of bank.now) table }
     requires knows { KnowsTable o (table_id table) (view pass.old) }
@@ -129,11 +142,13 @@ pub fn read_by(
     ensures low { hash_of (shape_of bank.now).texts key < 2 ^ 64 }
     ensures within { IsWithin (class_mask table.class) result.0 }
     ensures searched { (left : List ℕ)
-        × Searched (class_mask table.class) (0 ∷ 0 ∷ (held_words o (view pass.old)).table) key
+        × Searched (class_mask table.class) (0 ∷ 0 ∷ (held_unboxed o (view pass.old)).table) key
         (walk_slots way (hash_of (shape_of bank.now).texts key) (class_mask table.class)) left result.0
         × ((slot place : ℕ) → result.0 ≢ Was slot place)
-        × ReadsEntry (class_mask table.class) (0 ∷ 0 ∷ (held_words o (view pass.old)).table) result.0 result.1 }
+        × ReadsEntry (class_mask table.class) (0 ∷ 0 ∷ (held_unboxed o (view pass.old)).table) result.0 result.1 }
 {
+    key_fits(key);
+    named_boxes_are_known(pass);
     let mask = mask_of(table.class);
     let start = bank.cell_of(table);
     let mut words = TableWords {
@@ -159,6 +174,7 @@ pub fn read_in(
 ) -> (Found, Option<(u64, u64)>)
     requires pass { IsPassOf bank.now pass.old }
     requires container { o < container_count (shape_of bank.now) }
+    requires way { kind_in (shape_of bank.now).starts o ≡ kind_by way }
     requires key { IsKeyIn (shape_of bank.now) key }
     requires table { IsTableIn (shape_of bank.now) table }
     requires knows { KnowsTable o (table_id table) (view pass.old) }
@@ -167,10 +183,10 @@ pub fn read_in(
     ensures low { hash_of (shape_of bank.now).texts key < 2 ^ 64 }
     ensures within { IsWithin (class_mask table.class) result.0 }
     ensures searched { (left : List ℕ)
-        × Searched (class_mask table.class) (0 ∷ 0 ∷ (held_words o (view pass.old)).table) key
+        × Searched (class_mask table.class) (0 ∷ 0 ∷ (held_unboxed o (view pass.old)).table) key
         (walk_slots way (hash_of (shape_of bank.now).texts key) (class_mask table.class)) left result.0
         × ((slot place : ℕ) → result.0 ≢ Was slot place)
-        × ReadsEntry (class_mask table.class) (0 ∷ 0 ∷ (held_words o (view pass.old)).table) result.0 result.1 }
+        × ReadsEntry (class_mask table.class) (0 ∷ 0 ∷ (held_unboxed o (view pass.old)).table) result.0 result.1 }
 {
     let hash = bank.hash_of(key);
     read_by(bank, pass, o, way, key, hash, table)
@@ -184,7 +200,7 @@ pub fn read_key(bank: &Bank, pass: &mut Pass, o: u32, way: Way, key: Key) -> Opt
     requires way { kind_in (shape_of bank.now).starts o ≡ kind_by way }
     requires key { IsKeyIn (shape_of bank.now) key }
     requires locked { has_lock o (view pass.old).log ≡ true }
-    requires stands { Represents (shape_of bank.now).texts (held_words o (view pass.old)) (known_state o (view pass.old)) }
+    requires stands { Represents (shape_of bank.now).texts (held_unboxed o (view pass.old)) (known_state o (view pass.old)) }
     ensures pass { IsPassOf bank.now pass.new }
     ensures key { FitsKey key }
     ensures keeps { OnlyLoaded (view pass.old) (view pass.new) }

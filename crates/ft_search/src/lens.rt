@@ -4,7 +4,7 @@ ghost use Rattle.std.specs.Prelude.{◌≡◌, ◌<◌, List, true, false};
 ghost use Rattle.ft_trace.specs.declared.Act.{Act};
 ghost use Rattle.ft_trace.specs.Acts.{has_lock};
 ghost use Rattle.ft_trace.specs.Addresses.{container_count};
-ghost use Rattle.ft_trace.specs.Holds.{held_words, known_state};
+ghost use Rattle.ft_trace.specs.Holds.{held_unboxed, known_state};
 ghost use Rattle.ft_trace.specs.Pictures.{Represents};
 ghost use Rattle.ft_trace.specs.ContainerStates.{kind_in};
 ghost use Rattle.ft_bank.specs.Answered.{Answered};
@@ -78,7 +78,7 @@ pub fn len_locked(bank: &Bank, pass: &mut Pass, o: Object, call: &Call) -> (Repl
     requires container { o < container_count (shape_of bank.now) }
     requires call { call.now ≡ len_of (kind_in (shape_of bank.now).starts o) o }
     requires locked { has_lock o (view pass.old).log ≡ true }
-    requires stands { Represents (shape_of bank.now).texts (held_words o (view pass.old)) (known_state o (view pass.old)) }
+    requires stands { Represents (shape_of bank.now).texts (held_unboxed o (view pass.old)) (known_state o (view pass.old)) }
     requires left { 0 < (view pass.old).left }
     ensures pass { IsPassOf bank.now pass.new }
     ensures sections { stack_of pass.new ≡ stack_of pass.old }

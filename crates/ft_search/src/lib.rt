@@ -4,6 +4,7 @@
 
 mod answering;
 mod bare;
+mod boxed;
 mod deleting;
 mod entries;
 mod finishing;
@@ -21,6 +22,9 @@ mod valuing;
 mod words;
 
 pub use crate::answering::{answer_made, written};
+pub use crate::boxed::{
+    SeenValue, named_boxes_are_known, put_over, put_unboxed, read_value, release, see_value,
+};
 pub use crate::deleting::{delete_entry, put_deleted};
 pub use crate::entries::raise_version;
 pub use crate::finishing::{finish_entry, write_nothing};

@@ -11,23 +11,28 @@ ghost use Rattle.ft_bank.specs.Passes.{shape_of, view};
 ghost use Rattle.ft_bank.specs.Series.{DidAll};
 ghost use Rattle.ft_bank.specs.TableNames.{table_id};
 ghost use Rattle.ft_search.specs.TableWords.{CanLoad, SamePlace};
+ghost use Rattle.ft_search.specs.Boxed.{box_acts, SeesValue};
 ghost use Rattle.ft_search.specs.Rounds.{entry_acts};
 
+use crate::boxed::{SeenValue, see_value};
 use crate::words::TableWords;
 use ft_keys::Words;
 use ft_layout::entry_word::{KEY_KIND, VALUE, VALUE_KIND, VERSION};
 
-/// What was loaded of an entry, in the order of the loads: its version, words, the counter, its version.
+/// What was loaded of an entry, in the order of the loads: its version, words, the box that they name, the counter, its
+/// version.
 #[derive(Clone, Copy)]
 pub(crate) struct SeenEntry {
     /// The version at first.
     pub(crate) opened: u64,
     /// The kind of the key.
     pub(crate) key_kind: u64,
-    /// The kind of the value.
-    pub(crate) value_kind: u64,
-    /// The payload of the value.
-    pub(crate) value: u64,
+    /// The kind of the value, as it stands in the entry.
+    pub(crate) found_kind: u64,
+    /// The payload of the value, as it stands in the entry.
+    pub(crate) payload: u64,
+    /// The value, read through its box where it has one.
+    pub(crate) value: SeenValue,
     /// The counter.
     pub(crate) number: u64,
     /// The version at last.
@@ -70,6 +75,18 @@ impl<'a> TableWords<'a> {
         self.entry(place, word)
     }
 
+    /// Reads the value that has these words, as [`see_value`] does.
+    #[inline(always)]
+    pub(crate) fn see_value(&mut self, kind: u64, payload: u64) -> SeenValue
+        requires can { CanLoad self.old }
+        ensures can { CanLoad self.new }
+        ensures same { SamePlace self.old self.new }
+        ensures did { DidAll (box_acts result.boxed payload result.kind result.value) self.old.pass.now self.new.pass.now }
+        ensures sees { SeesValue (shape_of self.old.bank.now) kind payload result }
+    {
+        see_value(self.bank, self.pass, kind, payload)
+    }
+
     /// Loads an entry's words between two loads of its version.
     #[inline(always)]
     pub(crate) fn read_between(&mut self, place: u64) -> SeenEntry
@@ -78,17 +95,20 @@ impl<'a> TableWords<'a> {
         ensures can { CanLoad self.new }
         ensures same { SamePlace self.old self.new }
         ensures did { DidAll (entry_acts (table_id self.old.table) place result) self.old.pass.now self.new.pass.now }
+        ensures sees { SeesValue (shape_of self.old.bank.now) result.found_kind result.payload result.value }
     {
         let opened = self.word(place, VERSION);
         let key_kind = self.word(place, KEY_KIND);
-        let value_kind = self.word(place, VALUE_KIND);
-        let value = self.word(place, VALUE);
+        let found_kind = self.word(place, VALUE_KIND);
+        let payload = self.word(place, VALUE);
+        let value = self.see_value(found_kind, payload);
         let number = self.stamp();
         let closed = self.word(place, VERSION);
         SeenEntry {
             opened,
             key_kind,
-            value_kind,
+            found_kind,
+            payload,
             value,
             number,
             closed,

@@ -43,7 +43,7 @@ pub(crate) enum Round {
 }
 
 /// How many entries a table has that is searched this way.
-fn entries_of(way: Way, class: u32) -> u64
+pub(crate) fn entries_of(way: Way, class: u32) -> u64
     requires { IsClass class }
     ensures { result ≡ rows (kind_by way) class }
 {
@@ -108,7 +108,7 @@ fn look_at(words: &mut TableWords, place: u64, key: Key) -> Option<Looked>
     if seen.key_kind != kind_of(key) {
         return None;
     }
-    Some(Looked::Here(seen.value_kind, seen.value, seen.number))
+    Some(Looked::Here(seen.value.kind, seen.value.value, seen.number))
 }
 
 /// What follows where a search met a deleted entry of a key: the walk goes on, but for an odd version.

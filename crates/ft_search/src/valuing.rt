@@ -1,26 +1,28 @@
 //! Another value is put at a key of a dict whose lock the pass has, as one whole write: the version of the
 //! key's entry is odd while its two words change.
-ghost use Rattle.std.specs.Prelude.{◌≡◌, ◌<◌, false};
+ghost use Rattle.std.specs.Prelude.{◌≡◌, ◌<◌, false, None};
 ghost use Rattle.ft_layout.specs.declared.slot.Stored.TheVariants.{Plain};
 ghost use Rattle.ft_layout.specs.Words.{FitsStored};
 ghost use Rattle.ft_model.specs.declared.script.Kind.TheVariants as kind;
 ghost use Rattle.ft_trace.specs.Acts.{has_committed};
 ghost use Rattle.ft_trace.specs.Addresses.{class_of, slots};
 ghost use Rattle.ft_trace.specs.EntryWrites.{value_puts};
-ghost use Rattle.ft_trace.specs.Holds.{held_words, known_state};
+ghost use Rattle.ft_trace.specs.Holds.{held_unboxed, known_state};
 ghost use Rattle.ft_trace.specs.Kinds.{rows};
-ghost use Rattle.ft_trace.specs.Pictures.{entry_offset, entry_field, root_in};
+ghost use Rattle.ft_trace.specs.Pictures.{entry_field, root_in};
 ghost use Rattle.ft_trace.specs.ContainerStates.{kind_in};
 ghost use Rattle.ft_trace.specs.WholeWrites.{MayPuts, with_puts};
 ghost use Rattle.ft_bank.specs.Passes.{shape_of, view, IsPassOf};
 ghost use Rattle.ft_bank.specs.PassSections.{stack_of};
-ghost use Rattle.ft_bank.specs.TableNames.{table_id, IsPlaceOf};
-ghost use Rattle.ft_bank.specs.Whole.{OnlyPut, Wrote};
-ghost use Rattle.ft_bank.specs.WriteSteps.{IsCareful, with_table};
+ghost use Rattle.ft_bank.specs.SameBoxes.{SameReferences};
+ghost use Rattle.ft_bank.specs.TableNames.{table_id};
+ghost use Rattle.ft_bank.specs.Whole.{OnlyWritten, Wrote};
 ghost use Rattle.ft_search.specs.OneEntryWrites.{HasTable, IsLiveEntry, Leaves, MayWriteEntries, WritesEntries, are_of_value, with_value_at};
 
-use crate::entries::{put_entry, raise_at};
+use crate::boxed::put_over;
+use crate::entries::{raise_at, word_at};
 use crate::finishing::{finish_entry, write_nothing};
+use crate::tables::mask_of;
 use ft_bank::{Bank, Pass, Table};
 use ft_layout::{
     Stored, entry_word, stored_kind_of, stored_payload_of, used_entries_follow_a_dict,
@@ -28,39 +30,8 @@ use ft_layout::{
 };
 use ft_model::{Call, Key, Reply, Value};
 
-/// Puts a word of an entry, where it isn't there.
-fn put_other(
-    bank: &Bank,
-    pass: &mut Pass,
-    o: u32,
-    table: Table,
-    start: u64,
-    place: u64,
-    word: u64,
-    found: u64,
-    value: u64,
-)
-    requires pass { IsPassOf bank.now pass.old }
-    requires writes { WritesEntries (shape_of bank.now) o table (view pass.old) }
-    requires start { IsPlaceOf (shape_of bank.now) table start }
-    requires place { place < rows (kind_in (shape_of bank.now).starts o) (class_of (table_id table)) }
-    requires word { word < 8 }
-    requires found { found ≡ entry_field (slots (class_of (table_id table))) (held_words o (view pass.old)).table place word }
-    requires care { IsCareful (view pass.old) o (table_id table) (entry_offset (slots (class_of (table_id table))) place word)
-        value }
-    ensures pass { IsPassOf bank.now pass.new }
-    ensures stack { stack_of pass.new ≡ stack_of pass.old }
-    ensures writes { WritesEntries (shape_of bank.now) o table (view pass.new) }
-    ensures only { OnlyPut o (view pass.old) (view pass.new) }
-    ensures words { held_words o (view pass.new)
-        ≡ with_table (held_words o (view pass.old)) (entry_offset (slots (class_of (table_id table))) place word) value }
-{
-    if found != value {
-        put_entry(bank, pass, o, table, start, place, word, value);
-    }
-}
-
-/// Puts a value into the entry at a place, whose words were read, before the commit. Other entries may be written too.
+/// Puts a value into the entry at a place, whose value was read, before the commit; the reference of a box that the old
+/// value named is dropped. Other entries may be written too.
 #[inline(always)]
 pub fn put_value(
     bank: &Bank,
@@ -75,45 +46,26 @@ pub fn put_value(
     requires writes { WritesEntries (shape_of bank.now) o table (view pass.old) }
     requires place { place < rows (kind_in (shape_of bank.now).starts o) (class_of (table_id table)) }
     requires early { has_committed o (view pass.old).log ≡ false }
-    requires old_kind { old.0 ≡ entry_field (slots (class_of (table_id table))) (held_words o (view pass.old)).table place 4 }
-    requires old_payload { old.1 ≡ entry_field (slots (class_of (table_id table))) (held_words o (view pass.old)).table place 5 }
+    requires old_kind { old.0 ≡ entry_field (slots (class_of (table_id table))) (held_unboxed o (view pass.old)).table place 4 }
+    requires old_payload { old.1 ≡ entry_field (slots (class_of (table_id table))) (held_unboxed o (view pass.old)).table place 5 }
     requires may { MayPuts (kind_in (shape_of bank.now).starts o) (table_id table) (known_state o (view pass.old)).content false
-        (held_words o (view pass.old))
-        (value_puts (slots (class_of (table_id table))) (held_words o (view pass.old)).table place value) }
+        (held_unboxed o (view pass.old))
+        (value_puts (slots (class_of (table_id table))) (held_unboxed o (view pass.old)).table place None value) }
     ensures pass { IsPassOf bank.now pass.new }
     ensures stack { stack_of pass.new ≡ stack_of pass.old }
     ensures writes { WritesEntries (shape_of bank.now) o table (view pass.new) }
-    ensures only { OnlyPut o (view pass.old) (view pass.new) }
-    ensures words { held_words o (view pass.new) ≡ with_puts (held_words o (view pass.old))
-        (value_puts (slots (class_of (table_id table))) (held_words o (view pass.old)).table place value) }
+    ensures only { OnlyWritten o (view pass.old) (view pass.new) }
+    ensures words { held_unboxed o (view pass.new) ≡ with_puts (held_unboxed o (view pass.old))
+        (value_puts (slots (class_of (table_id table))) (held_unboxed o (view pass.old)).table place None value) }
 {
+    let _ = old;
     let stored = Stored::Plain(value);
     let kind_word = stored_kind_of(stored);
     let payload = stored_payload_of(stored);
     let start = bank.cell_of(table);
     raise_at(bank, pass, o, table, start, place);
-    put_other(
-        bank,
-        pass,
-        o,
-        table,
-        start,
-        place,
-        entry_word::VALUE_KIND,
-        old.0,
-        kind_word,
-    );
-    put_other(
-        bank,
-        pass,
-        o,
-        table,
-        start,
-        place,
-        entry_word::VALUE,
-        old.1,
-        payload,
-    );
+    let word = word_at(mask_of(table.class), place, entry_word::VALUE_KIND);
+    put_over(bank, pass, o, table, start, word, kind_word, payload);
 }
 
 /// Whether these words of an entry, which were read, say a value.
@@ -144,8 +96,8 @@ pub fn set_entry(
     requires dict { kind_in (shape_of bank.now).starts d ≡ kind.Dict }
     requires table { HasTable (shape_of bank.now) d table (view pass.old) }
     requires entry { IsLiveEntry (shape_of bank.now) d table place key (view pass.old) }
-    requires old_kind { old.0 ≡ entry_field (slots (class_of (table_id table))) (held_words d (view pass.old)).table place 4 }
-    requires old_payload { old.1 ≡ entry_field (slots (class_of (table_id table))) (held_words d (view pass.old)).table place 5 }
+    requires old_kind { old.0 ≡ entry_field (slots (class_of (table_id table))) (held_unboxed d (view pass.old)).table place 4 }
+    requires old_payload { old.1 ≡ entry_field (slots (class_of (table_id table))) (held_unboxed d (view pass.old)).table place 5 }
     requires value { FitsStored (Plain value) }
     requires leaves { Leaves d called.now said.now (record {
       content = with_value_at (known_state d (view pass.old)).content key value;
@@ -155,7 +107,8 @@ pub fn set_entry(
     ensures pass { IsPassOf bank.now pass.new }
     ensures stack { stack_of pass.new ≡ stack_of pass.old }
     ensures wrote { Wrote called.now said.now result (view pass.old) (view pass.new) }
-    ensures root { root_in (held_words d (view pass.new)) ≡ root_in (held_words d (view pass.old)) }
+    ensures references { SameReferences (view pass.old) (view pass.new) }
+    ensures root { root_in (held_unboxed d (view pass.new)) ≡ root_in (held_unboxed d (view pass.old)) }
 {
     let _ = key;
     versions_change_nothing();

@@ -73,6 +73,7 @@ ended b p w outer top said n r split go =
       used = i.still.used;
       owes = i.still.owes;
       flight = i.still.flight;
+      boxes = i.still.boxes;
       stands = i.still.stands;
     }) i.locks i.low go
     (λ o. let e = ap (noted_in o) split ∙ noted_push o outer top in omega (arith, e))

@@ -1,5 +1,5 @@
 -- A pass of a new bank has no lock, no section and no table.
-use Rattle.std.proofs.Common.{ℕ, inl, refl, sym, ap, ◌∙◌, subst}
+use Rattle.std.proofs.Common.{ℕ, inl, refl, sym, ap, ◌∙◌, subst, arith}
 use Rattle.std.proofs.lemmas.Bool.{false≢true}
 use Rattle.std.proofs.lemmas.List.Elements.{All-nil}
 use Rattle.ft_bank.specs.declared.bank.Bank.{Bank}
@@ -22,6 +22,7 @@ fresh_in_call k i =
         used = refl;
         owes = refl;
         flight = refl;
+        boxes = λ b. (refl, (λ z. omega (arith, z)), (λ z. omega (arith, z)), refl);
         stands = λ o low has. absurd (false≢true has);
       };
       locks = λ o. refl;

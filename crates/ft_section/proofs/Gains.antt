@@ -2,7 +2,8 @@
 use Rattle.std.proofs.Common.{◌≡◌, ◌≢◌, ◌<◌, ◌+◌, ◌==◌, ℕ, Bool, true, false, cond, List, [], ◌∷◌, ◌++◌, inl, inr, ⊎_elim, refl, sym, ap, ◌∙◌, subst, arith, append_assoc}
 use Rattle.std.proofs.lemmas.Bool.{true≢false, eqb-true, ne_eqb}
 use Rattle.std.specs.Prelude.{if◌then◌else◌}
-use Rattle.ft_bank.specs.Locks.{KeepsOthers}
+use Rattle.ft_bank.specs.Locks.{KeepsOthers, KnowsSame}
+use Rattle.ft_bank.specs.SameBoxes.{SameMade}
 use Rattle.ft_section.specs.Locking.{OnlyLocked, TookLocks, FoundOwner, at_one}
 use Rattle.ft_section.proofs.InCalls.{one_if, counted}
 use Rattle.ft_trace.specs.declared.Act.{Act}
@@ -11,7 +12,7 @@ use Rattle.ft_trace.specs.declared.Snap.{Snap}
 use Rattle.ft_trace.specs.declared.View.{View}
 use Rattle.ft_trace.specs.Addresses.{container_count}
 use Rattle.ft_trace.specs.Acts.{has_lock, view_after}
-use Rattle.ft_trace.specs.Holds.{held_words, known_state}
+use Rattle.ft_trace.specs.Holds.{held_unboxed, known_state}
 use Rattle.ft_trace.specs.Owners.{is_owner_in, had_locks, found_owners, FindsMore, LocksOnly}
 use Rattle.ft_trace.specs.Pictures.{Represents}
 use Rattle.ft_trace.proofs.Cases.{miss}
@@ -22,7 +23,8 @@ only_tried : (v : View) (o f : ℕ) (s : Snap) → has_lock o v.log ≡ false �
 only_tried v o f s free keeps =
     let w : View = view_after (Lock o f s) v in
     let grew : w.log ≡ (Lock o f s ∷ []) ++ v.log = refl in
-    let knows : (p : ℕ) → p < container_count v.shape → has_lock p v.log ≡ true → has_lock p w.log ≡ true → (held_words p w ≡ held_words p v) × (known_state p w ≡ known_state p v) = λ p low had has. keeps p low (λ e. true≢false (sym had ∙ (ap (λ (z : ℕ). has_lock z v.log) e ∙ free))) had in
+    let made : SameMade v w = record { state = λ b. refl; local = λ b. refl; taken = λ b. refl; places = λ b. refl } in
+    let knows : (p : ℕ) → p < container_count v.shape → has_lock p v.log ≡ true → has_lock p w.log ≡ true → KnowsSame p v w = λ p low had has. keeps p low (λ e. true≢false (sym had ∙ (ap (λ (z : ℕ). has_lock z v.log) e ∙ free))) had in
     search
 
 gains : (b h : Bool) → (b ≡ true → h ≡ false) → one_if (cond b true h) ≡ one_if h + one_if b
@@ -46,7 +48,7 @@ only_one v o s p q is =
     (one_or p q (o == p) (v.number == q) (is_owner_in p q (had_locks v.number v.log)) is)
 
 -- the lock was free
-pub took_lock : (v : View) (o : ℕ) (s : Snap) → has_lock o v.log ≡ false → o < container_count v.shape → KeepsOthers o v (view_after (Lock o 0 s) v) → Represents v.shape.texts (held_words o (view_after (Lock o 0 s) v)) (known_state o (view_after (Lock o 0 s) v)) → TookLocks (at_one o) v (view_after (Lock o 0 s) v)
+pub took_lock : (v : View) (o : ℕ) (s : Snap) → has_lock o v.log ≡ false → o < container_count v.shape → KeepsOthers o v (view_after (Lock o 0 s) v) → Represents v.shape.texts (held_unboxed o (view_after (Lock o 0 s) v)) (known_state o (view_after (Lock o 0 s) v)) → TookLocks (at_one o) v (view_after (Lock o 0 s) v)
 took_lock v o s free low keeps stands =
     let same : (p : ℕ) → at_one o p ≢ 0 → o ≡ p = λ p some_one. eqb-true o p (counted (o == p) some_one) in
     record {
@@ -54,7 +56,7 @@ took_lock v o s free low keeps stands =
       keeps = λ p had. stays (o == p) (has_lock p v.log) had;
       count = λ p. gains (o == p) (has_lock p v.log) (λ e. subst (λ (z : ℕ). has_lock z v.log ≡ false) (eqb-true o p e) free);
       low = λ p some_one. subst (λ (z : ℕ). z < container_count v.shape) (same p some_one) low;
-      stands = λ p some_one. subst (λ (z : ℕ). Represents v.shape.texts (held_words z (view_after (Lock o 0 s) v)) (known_state z (view_after (Lock o 0 s) v))) (same p some_one) stands;
+      stands = λ p some_one. subst (λ (z : ℕ). Represents v.shape.texts (held_unboxed z (view_after (Lock o 0 s) v)) (known_state z (view_after (Lock o 0 s) v))) (same p some_one) stands;
       begun = refl;
       only = only_one v o s;
     }

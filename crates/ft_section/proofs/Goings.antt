@@ -9,6 +9,7 @@ use Rattle.ft_section.specs.declared.answers.Objects.{Objects}
 use Rattle.ft_section.specs.Ready.{IsStill, IsWaiting, InCall, IsInCall, HasMarks, AreMarked, AreSuspended, AreBegun, IsReady, MayTry, NotesTop, lock_count}
 use Rattle.ft_section.specs.Locking.{OnlyLocked, LetGo, MayLetGo, FoundOwner, with_own}
 use Rattle.ft_section.specs.LockTakings.{IsLockTaking}
+use Rattle.ft_bank.proofs.DoneBoxes.{done_as}
 use Rattle.ft_section.proofs.InCalls.{one_if, has_counted, counted_has, still_stands}
 use Rattle.ft_section.proofs.Waits.{marked_split}
 use Rattle.ft_trace.specs.declared.Act.{Act}
@@ -41,6 +42,7 @@ went_from v w t amount before still locks low go left takings begun' struck mark
         used = go.locked.used ∙ still.used;
         owes = go.locked.owes ∙ still.owes;
         flight = go.locked.flight ∙ still.flight;
+        boxes = done_as v w go.locked.references go.locked.made still.boxes;
         stands = λ o _ has. let h = had o has in still_stands v w go.locked o (low o h) h has (still.stands o (low o h) h);
       };
       locks = λ o. let a = locks o in let c = go.count o in let l = left o in omega (arith, a, c, l);

@@ -11,11 +11,12 @@ use Rattle.ft_bank.specs.PassSections.{Stack, stack_of, taken_in, nothing_taken}
 use Rattle.ft_section.specs.Ready.{InCall, IsInCall, HasMarks, lock_count, AreBegun}
 use Rattle.ft_section.specs.Locking.{OnlyLocked, TookLocks, KeepsStack, with_own}
 use Rattle.ft_section.specs.LockTakings.{IsLockTaking, IsOwnFor, HasBoth}
+use Rattle.ft_bank.proofs.DoneBoxes.{done_as}
 use Rattle.ft_trace.specs.declared.Shape.{Shape}
 use Rattle.ft_trace.specs.declared.View.{View}
 use Rattle.ft_trace.specs.Addresses.{container_count}
 use Rattle.ft_trace.specs.Acts.{has_lock}
-use Rattle.ft_trace.specs.Holds.{held_words, known_state}
+use Rattle.ft_trace.specs.Holds.{held_unboxed, known_state}
 use Rattle.ft_trace.specs.BegunSections.{Begun}
 use Rattle.ft_trace.specs.Pictures.{ContainerWords, Represents}
 
@@ -34,12 +35,12 @@ pub counted_has : (o : ℕ) (v : View) → has_lock o v.log ≡ true → lock_co
 counted_has o v has = ap one_if has
 
 -- what stands of a lock that the pass had stands where it knows the same
-pub still_stands : (v w : View) → OnlyLocked v w → (o : ℕ) → o < container_count v.shape → has_lock o v.log ≡ true → has_lock o w.log ≡ true → Represents v.shape.texts (held_words o v) (known_state o v) → Represents w.shape.texts (held_words o w) (known_state o w)
+pub still_stands : (v w : View) → OnlyLocked v w → (o : ℕ) → o < container_count v.shape → has_lock o v.log ≡ true → has_lock o w.log ≡ true → Represents v.shape.texts (held_unboxed o v) (known_state o v) → Represents w.shape.texts (held_unboxed o w) (known_state o w)
 still_stands v w l o low had has stands =
     let k = l.knows o low had has in
-    subst (λ (s : Shape). Represents s.texts (held_words o w) (known_state o w)) (sym l.shape)
-    (subst (λ (x : ContainerWords). Represents v.shape.texts x (known_state o w)) (sym k.0)
-    (subst (Represents v.shape.texts (held_words o v)) (sym k.1) stands))
+    subst (λ (s : Shape). Represents s.texts (held_unboxed o w) (known_state o w)) (sym l.shape)
+    (subst (λ (x : ContainerWords). Represents v.shape.texts x (known_state o w)) (sym k.2)
+    (subst (Represents v.shape.texts (held_unboxed o v)) (sym k.1) stands))
 
 -- the pass has taken locks, which the call in flight notes as its own
 pub took_in_call : (v w : View) (s : Stack) (amount : ℕ → ℕ) (own : Taking) → InCall v s → TookLocks amount v w → ((o : ℕ) → taken_in o own ≡ taken_in o s.own + amount o) → InCall w (with_own s own)
@@ -52,6 +53,7 @@ took_in_call v w s amount own i t is =
         used = t.locked.used ∙ i.still.used;
         owes = t.locked.owes ∙ i.still.owes;
         flight = t.locked.flight ∙ i.still.flight;
+        boxes = done_as v w t.locked.references t.locked.made i.still.boxes;
         stands = λ o low has. dite (ℕ_discrete (amount o) 0)
             (λ none. let h = had o has none in still_stands v w t.locked o (i.low o h) h has (i.still.stands o (i.low o h) h))
             (λ some_one. t.stands o some_one);

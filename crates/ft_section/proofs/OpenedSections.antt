@@ -110,6 +110,7 @@ entered b p objects n m low has noted order =
         used = i.still.used;
         owes = i.still.owes;
         flight = i.still.flight;
+        boxes = i.still.boxes;
         stands = i.still.stands;
       };
       locks = λ o. let a = i.locks o in let e = noted_push o s.sections here in omega (arith, a, e);

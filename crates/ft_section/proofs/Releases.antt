@@ -4,6 +4,8 @@ use Rattle.std.specs.Prelude.{if◌then◌else◌}
 use Rattle.std.proofs.lemmas.Bool.{false≢true, eqb-true, eq-eqb, ne_eqb}
 use Rattle.ft_bank.specs.declared.sections.OpenSection.{OpenSection}
 use Rattle.ft_bank.specs.declared.sections.Taking.{Taking}
+use Rattle.ft_bank.specs.SameBoxes.{SameMade}
+use Rattle.ft_bank.proofs.BoxedSteps.{made_same, made_then}
 use Rattle.ft_bank.specs.PassSections.{noted_in, taken_in}
 use Rattle.ft_section.specs.Ready.{AreBegun, IsBegun}
 use Rattle.ft_section.specs.Locking.{OnlyLocked, LetGo, at_one}
@@ -45,22 +47,26 @@ only_then u v w l m between =
       debt = m.debt ∙ l.debt;
       owes = m.owes ∙ l.owes;
       flight = m.flight ∙ l.flight;
+      references = λ b. m.references b ∙ l.references b;
+      made = made_then u v w l.made m.made;
       stays_online = λ is. m.stays_online (l.stays_online is);
       knows = λ p low had has.
           let then_has = between p had has in
           let a = l.knows p low had then_has in
           let b = m.knows p (subst (λ (k : Shape). p < container_count k) (sym l.shape) low) then_has has in
-          (b.0 ∙ a.0, b.1 ∙ a.1);
+          (b.0 ∙ a.0, b.1 ∙ a.1, b.2 ∙ a.2);
     }
 
 pub only_same : (v : View) → OnlyLocked v v
 only_same v =
     let grew : v.log ≡ [] ++ v.log = refl in
+    let made = made_same v in
     search
 
 only_unlocked : (v : View) (o : ℕ) → OnlyLocked v (view_after (Unlock o) v)
 only_unlocked v o =
     let grew : (view_after (Unlock o) v).log ≡ (Unlock o ∷ []) ++ v.log = refl in
+    let made : SameMade v (view_after (Unlock o) v) = record { state = λ b. refl; local = λ b. refl; taken = λ b. refl; places = λ b. refl } in
     search
 
 -- a section that has the lock of o isn't one that no section notes

@@ -11,6 +11,7 @@ use Rattle.ft_bank.specs.PassSections.{Stack, stack_of, noted_in, suspended}
 use Rattle.ft_section.specs.Ready.{InCall, IsInCall, HasMarks, AreSuspended, AreBegun, IsBegun, lock_count}
 use Rattle.ft_section.specs.Locking.{LetGo, MayLetGo, waiting, marks_more}
 use Rattle.ft_section.specs.LockTakings.{IsLockTaking}
+use Rattle.ft_bank.proofs.DoneBoxes.{done_as}
 use Rattle.ft_section.proofs.InCalls.{has_counted, counted_has, still_stands}
 use Rattle.ft_trace.specs.declared.Shape.{Shape}
 use Rattle.ft_trace.specs.declared.View.{View}
@@ -73,6 +74,7 @@ waits v w s q i was go =
           used = go.locked.used ∙ i.still.used;
           owes = go.locked.owes ∙ i.still.owes;
           flight = go.locked.flight ∙ i.still.flight;
+          boxes = done_as v w go.locked.references go.locked.made i.still.boxes;
           stands = λ o low has. let h = had o has in still_stands v w go.locked o (i.low o h) h has (i.still.stands o (i.low o h) h);
         };
         locks = λ o. let a = i.locks o in let c = go.count o in let z = none o in omega (arith, a, c, z);

@@ -1,10 +1,12 @@
 -- What taking locks and letting them go leaves of what a pass knows.
 use Rattle.std.specs.Prelude.{◌≡◌, ◌<◌, ◌≤◌, ◌+◌, ◌==◌, ◌≢◌, ◌||◌, ◌++◌, ℕ, Bool, true, false, List, [], ◌∷◌, map, Option, Some, None, if◌then◌else◌}
 use Rattle.ft_bank.specs.declared.bank.Bank.{Bank}
+use Rattle.ft_bank.specs.Locks.{KnowsSame}
 use Rattle.ft_bank.specs.declared.pass.Pass.{Pass}
 use Rattle.ft_bank.specs.declared.sections.OpenSection.{OpenSection}
 use Rattle.ft_bank.specs.Passes.{shape_of, view, IsPassOf}
 use Rattle.ft_bank.specs.declared.sections.Taking.{Taking}
+use Rattle.ft_bank.specs.SameBoxes.{SameReferences, SameMade}
 use Rattle.ft_bank.specs.PassSections.{Stack, stack_of, noted_in, taken_in, suspended, nothing_taken}
 use Rattle.ft_section.specs.declared.answers.Objects.{Objects}
 use Rattle.ft_section.specs.Ready.{lock_count, AreBegun}
@@ -18,7 +20,7 @@ use Rattle.ft_trace.specs.Acts.{has_lock, is_writing, has_committed, has_emptied
 use Rattle.ft_trace.specs.Floors.{at_floor}
 use Rattle.ft_trace.specs.Hands.{cursor_in}
 use Rattle.ft_trace.specs.Owners.{LocksOnly, SameOwners}
-use Rattle.ft_trace.specs.Holds.{held_words, known_state}
+use Rattle.ft_trace.specs.Holds.{held_unboxed, known_state}
 use Rattle.ft_trace.specs.BegunSections.{begun}
 use Rattle.ft_trace.specs.Pictures.{Represents}
 use Rattle.ft_bank.specs.Logs.{StaysOnline}
@@ -49,9 +51,11 @@ pub record OnlyLocked (v w : View) : Type 0 where
   pub debt : debt w.log ≡ debt v.log
   pub owes : owes w.log ≡ owes v.log
   pub flight : flight w.log ≡ flight v.log
+  pub references : SameReferences v w
+  pub made : SameMade v w
   pub stays_online : StaysOnline v w
   pub knows : (p : ℕ) → p < container_count v.shape → has_lock p v.log ≡ true → has_lock p w.log ≡ true
-      → (held_words p w ≡ held_words p v) × (known_state p w ≡ known_state p v)
+      → KnowsSame p v w
 
 -- it has each lock that it had
 abbrev pub KeepsLocks : View → View → Type 0
@@ -75,7 +79,7 @@ pub record TookLocks (amount : ℕ → ℕ) (v w : View) : Type 0 where
   pub keeps : KeepsLocks v w
   pub count : (o : ℕ) → lock_count o w ≡ lock_count o v + amount o
   pub low : (o : ℕ) → amount o ≢ 0 → o < container_count v.shape
-  pub stands : (o : ℕ) → amount o ≢ 0 → Represents w.shape.texts (held_words o w) (known_state o w)
+  pub stands : (o : ℕ) → amount o ≢ 0 → Represents w.shape.texts (held_unboxed o w) (known_state o w)
   pub begun : begun w.log ≡ begun v.log
   pub only : LocksOnly (λ o. amount o ≢ 0) v w
 

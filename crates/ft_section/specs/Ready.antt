@@ -10,20 +10,23 @@ use Rattle.ft_section.specs.LockTakings.{IsLockTaking, IsOwnFor, HasBoth, lower_
 use Rattle.ft_trace.specs.declared.View.{View}
 use Rattle.ft_trace.specs.Addresses.{container_count}
 use Rattle.ft_trace.specs.Acts.{has_lock, is_writing, stage, used, owes, flight}
-use Rattle.ft_trace.specs.Holds.{held_words, known_state}
+use Rattle.ft_trace.specs.Boxes.{IsDoneWithBoxes}
+use Rattle.ft_trace.specs.Holds.{held_unboxed, known_state}
 use Rattle.ft_trace.specs.BegunSections.{Begun, begun, is_among}
 use Rattle.ft_trace.specs.Pictures.{Represents}
 
--- A pass is in the midst of no write and of no taking of a table: no version is odd by it, it has no table in hand but
--- such as it retired, and the words of each container whose lock it has stand for what the writes make of it. (profile)
+-- A pass is in the midst of no write, of no taking of a table and of nothing with boxes: no version is odd by it, it has
+-- no table in hand but such as it retired, it holds no reference for a box, makes none and has merged each that it made,
+-- and the words of each container whose lock it has stand for what the writes make of it. (profile)
 pub record IsStill (v : View) : Type 0 where
   pub even : (o : ℕ) → is_writing o v.log ≡ false
   pub hands : (t : ℕ) → (stage t v.log ≡ 0) ⊎ (stage t v.log ≡ 4)
   pub used : used v.log ≡ false
   pub owes : owes v.log ≡ 0
   pub flight : flight v.log ≡ 0
+  pub boxes : IsDoneWithBoxes v.shape v.log
   pub stands : (o : ℕ) → o < container_count v.shape → has_lock o v.log ≡ true
-      → Represents v.shape.texts (held_words o v) (known_state o v)
+      → Represents v.shape.texts (held_unboxed o v) (known_state o v)
 
 -- 1 where the pass has the lock of o, and else 0
 abbrev pub lock_count : ℕ → View → ℕ

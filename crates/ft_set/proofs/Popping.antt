@@ -26,7 +26,7 @@ use Rattle.ft_model.specs.Worlds.{kind_of, no_hands, set_of}
 use Rattle.ft_trace.specs.declared.Shape.{Shape}
 use Rattle.ft_trace.specs.declared.View.{View}
 use Rattle.ft_trace.specs.Addresses.{class_of, container_count, places}
-use Rattle.ft_trace.specs.Holds.{held_words, known_state}
+use Rattle.ft_trace.specs.Holds.{held_unboxed, known_state}
 use Rattle.ft_trace.specs.Kinds.{rows}
 use Rattle.ft_trace.specs.Traces.{IsReachable}
 use Rattle.ft_trace.specs.Pictures.{ContainerWords, root_in}
@@ -156,8 +156,8 @@ module _ (k : Shape) (s : ℕ) (v : View) (shape : v.shape ≡ k) (possible : �
   is_set' : (known_state s v).content ≡ content.Set elements'
   is_set' = as_set (known_state s v).content known_kind
 
-  module _ (first : First) (found : IsFirstOf k (Some first) (held_words s v)) where
-    here : IsFirstElement k (Some first) (held_words s v) elements'
+  module _ (first : First) (found : IsFirstOf k (Some first) (held_unboxed s v)) where
+    here : IsFirstElement k (Some first) (held_unboxed s v) elements'
     here = found (known_state s v) known_kind may.stands
 
     pub popped_table : HasTable k s first.table v
@@ -179,7 +179,7 @@ module _ (k : Shape) (s : ℕ) (v : View) (shape : v.shape ≡ k) (possible : �
         ap (λ (z : Option Element). option_map_or (λ (element : Element). puts stored.world no_hands s (content.Set (without_first elements')) (reply.Value (as_value element.key))) z (shows stored.world no_hands (reply.Raised raise.NoKey))) here.3.1
         ∙ ap (λ (z : SetContent). puts stored.world no_hands s (content.Set z) (reply.Value (as_value first.key))) (sym here.4)))
 
-  module _ (found : IsFirstOf k None (held_words s v)) where
+  module _ (found : IsFirstOf k None (held_unboxed s v)) where
     empty : length elements'.elements ≡ 0
     empty = found (known_state s v) known_kind may.stands
 

@@ -48,6 +48,7 @@ fn first_with(table: Table, place: u64, found: Option<Key>) -> Option<First>
 /// The first element among as many entries of a table.
 fn first_in(bank: &Bank, pass: &mut Pass, s: Object, table: Table, fill: u64) -> Option<First>
     requires pass { IsPassOf bank.now pass.old }
+    requires set { kind_in (shape_of bank.now).starts s ≡ kind.Set }
     requires table { IsTableIn (shape_of bank.now) table }
     ensures pass { IsPassOf bank.now pass.new }
     ensures stack { stack_of pass.new ≡ stack_of pass.old }
@@ -67,6 +68,7 @@ fn first_in(bank: &Bank, pass: &mut Pass, s: Object, table: Table, fill: u64) ->
 fn first_element(bank: &Bank, pass: &mut Pass, s: Object) -> Option<First>
     requires pass { IsPassOf bank.now pass.old }
     requires container { s < container_count (shape_of bank.now) }
+    requires set { kind_in (shape_of bank.now).starts s ≡ kind.Set }
     ensures pass { IsPassOf bank.now pass.new }
     ensures stack { stack_of pass.new ≡ stack_of pass.old }
     ensures reads { Reads (shape_of bank.now) s (IsFirstOf (shape_of bank.now) result) pass.old pass.new }

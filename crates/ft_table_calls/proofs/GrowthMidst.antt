@@ -7,12 +7,12 @@ use Rattle.ft_model.specs.declared.reply.Reply.{Reply}
 use Rattle.ft_trace.specs.declared.Act.TheVariants.{PutRoot}
 use Rattle.ft_trace.specs.declared.Shape.{Shape}
 use Rattle.ft_trace.specs.declared.View.{View}
-use Rattle.ft_trace.specs.Acts.{has_lock, is_writing, stage, stage_next, owes, used, flight, seen_writes}
+use Rattle.ft_trace.specs.Acts.{has_lock, is_writing, stage, stage_next, owes, used, seen_writes}
 use Rattle.ft_trace.specs.Addresses.{container_count}
-use Rattle.ft_trace.specs.Holds.{held_words, known_state}
+use Rattle.ft_trace.specs.Boxes.{IsDoneWithBoxes}
+use Rattle.ft_trace.specs.Holds.{held_words, held_unboxed, known_state}
 use Rattle.ft_trace.specs.Pictures.{ContainerWords, root_in, Represents}
 use Rattle.ft_trace.specs.ContainerStates.{ContainerState, changes}
-use Rattle.ft_trace.specs.BegunSections.{begun}
 use Rattle.ft_trace.proofs.Cases.{hit, miss, here}
 use Rattle.ft_bank.specs.declared.bank.Bank.{Bank}
 use Rattle.ft_bank.specs.declared.pass.Pass.{Pass}
@@ -22,9 +22,12 @@ use Rattle.ft_bank.specs.Answered.{Answered}
 use Rattle.ft_bank.specs.Passes.{view, IsPassOf}
 use Rattle.ft_bank.specs.PassSections.{stack_of}
 use Rattle.ft_bank.specs.TableNames.{table_id}
+use Rattle.ft_bank.specs.Locks.{KnowsSame}
+use Rattle.ft_bank.specs.SameBoxes.{SameReferences}
 use Rattle.ft_bank.specs.Whole.{OnlyLoaded, SamePass, Wrote, hand_after}
 use Rattle.ft_bank.proofs.KnownAfterWrites.{same_pass, pass_then}
 use Rattle.ft_section.specs.Ready.{IsStill, IsMaking}
+use Rattle.ft_bank.proofs.DoneBoxes.{done_as}
 use Rattle.ft_section.proofs.MidstOfCall.{making_stays}
 use Rattle.ft_search.proofs.ReadMidst.{LeavesSections, still_loaded, still_read, sections_read}
 use Rattle.ft_table_calls.specs.declared.adding.Added.{Added}
@@ -41,32 +44,33 @@ module _ (called : Call) (said : Reply) (n : ℕ) (v w : View) (s : IsStill v) (
   abbrev o : ℕ
   o = changes called
 
-  stands_after : (p : ℕ) → p < container_count w.shape → has_lock p w.log ≡ true → Represents w.shape.texts (held_words p w) (known_state p w)
+  stands_after : (p : ℕ) → p < container_count w.shape → has_lock p w.log ≡ true → Represents w.shape.texts (held_unboxed p w) (known_state p w)
   stands_after p low has =
       let shape = wrote.pass.shape in
       let low' : p < container_count v.shape = subst (λ (k : Shape). p < container_count k) shape low in
       let mine : has_lock p v.log ≡ true = sym (wrote.pass.locks p) ∙ has in
-      subst (λ (k : Shape). Represents k.texts (held_words p w) (known_state p w)) (sym shape)
+      subst (λ (k : Shape). Represents k.texts (held_unboxed p w) (known_state p w)) (sym shape)
       (dite (ℕ_discrete p o)
-      (λ (e : p ≡ o). subst (λ (q : ℕ). Represents v.shape.texts (held_words q w) (known_state q w)) (sym e) wrote.stands)
+      (λ (e : p ≡ o). subst (λ (q : ℕ). Represents v.shape.texts (held_unboxed q w) (known_state q w)) (sym e) wrote.stands)
       (λ ne.
       let e = wrote.others p low' ne mine (s.even p) in
-      subst (λ (x : ContainerWords × ContainerState). Represents v.shape.texts x.0 x.1) (λ d. (sym e.0 d, sym e.1 d)) (s.stands p low' mine)))
+      subst (λ (x : ContainerWords × ContainerState). Represents v.shape.texts x.0 x.1) (λ d. (sym e.2 d, sym e.1 d)) (s.stands p low' mine)))
 
   -- where the tables are in no hand that it leaves
-  wrote_still_so : ((t : ℕ) → IsOut (stage t w.log)) → IsStill w
-  wrote_still_so hands = record {
+  wrote_still_so : IsDoneWithBoxes w.shape w.log → ((t : ℕ) → IsOut (stage t w.log)) → IsStill w
+  wrote_still_so boxes hands = record {
     even = λ p. wrote.pass.writes p ∙ s.even p;
     hands = hands;
     used = wrote.used;
     owes = wrote.owes;
     flight = wrote.pass.flight ∙ s.flight;
+    boxes = boxes;
     stands = stands_after;
   }
 
-  pub wrote_still : root_in (held_words o w) ≡ root_in (held_words o v) → IsStill w
-  wrote_still root =
-      wrote_still_so
+  pub wrote_still : root_in (held_words o w) ≡ root_in (held_words o v) → SameReferences v w → IsStill w
+  wrote_still root references =
+      wrote_still_so (done_as v w references wrote.made s.boxes)
       (λ t. subst IsOut (sym (wrote.hands t ∙ (ap (λ (z : ℕ). hand_after o (root_in (held_words o v)) z t (stage t v.log)) root ∙ hit (root_in (held_words o v)) (stage t v.log) _))) (s.hands t))
 
 -- ---- takings
@@ -75,14 +79,14 @@ module _ (k : Shape) (class : ℕ) (r : Took) (v w : View) (s : IsStill v) (trie
   pub tried_out : (t : ℕ) → (stage t w.log ≡ stage t v.log) ⊎ (stage t w.log ≡ 0) → IsOut (stage t w.log)
   tried_out t either = ⊎_elim (λ (e : stage t w.log ≡ stage t v.log). subst IsOut (sym e) (s.hands t)) (λ (e : stage t w.log ≡ 0). inl e) either
 
-  pub tried_stands : (p : ℕ) → p < container_count w.shape → has_lock p w.log ≡ true → Represents w.shape.texts (held_words p w) (known_state p w)
+  pub tried_stands : (p : ℕ) → p < container_count w.shape → has_lock p w.log ≡ true → Represents w.shape.texts (held_unboxed p w) (known_state p w)
   tried_stands p low has =
       let shape = tried.same.shape in
       let low' : p < container_count v.shape = subst (λ (z : Shape). p < container_count z) shape low in
       let mine : has_lock p v.log ≡ true = sym (tried.same.locks p) ∙ has in
       let e = tried.keeps.held.words p low' mine in
-      subst (λ (z : Shape). Represents z.texts (held_words p w) (known_state p w)) (sym shape)
-      (subst (λ (x : ContainerWords × ContainerState). Represents v.shape.texts x.0 x.1) (λ d. (sym e.0 d, sym e.1 d)) (s.stands p low' mine))
+      subst (λ (z : Shape). Represents z.texts (held_unboxed p w) (known_state p w)) (sym shape)
+      (subst (λ (x : ContainerWords × ContainerState). Represents v.shape.texts x.0 x.1) (λ d. (sym e.2 d, sym e.1 d)) (s.stands p low' mine))
 
   -- a taking that has no table
   pub tried_still : ((t : ℕ) → IsOut (stage t w.log)) → owes w.log ≡ 0 → IsStill w
@@ -92,6 +96,7 @@ module _ (k : Shape) (class : ℕ) (r : Took) (v w : View) (s : IsStill v) (trie
     used = tried.keeps.held.used ∙ s.used;
     owes = none;
     flight = tried.same.flight ∙ s.flight;
+    boxes = done_as v w tried.keeps.boxes.references tried.keeps.boxes.made s.boxes;
     stands = tried_stands;
   }
 
@@ -105,9 +110,16 @@ retired_same (suc t) v w is =
     (record { number = refl; next = refl; parts = refl; shape = refl; locks = λ p. refl; writes = λ p. refl; announced = refl; flight = refl; begun = refl; cursors = λ n. refl; tokens = refl; lists = refl; floor = refl; since = refl; owners = record { had = refl; found = refl }; learnt = refl; seen = le_refl (seen_writes v); grown = λ old was. inr (inr was); stays_online = λ is. is })
 
 -- the pass knows the same words and contents, and owes and has used the same
-pub retired_knows : (root : ℕ) (v w : View) → Retires root v w → (p : ℕ) → (held_words p w ≡ held_words p v) × (known_state p w ≡ known_state p v)
-retired_knows zero v w is p = (ap (λ (u : View). held_words p u) is, ap (λ (u : View). known_state p u) is)
-retired_knows (suc t) v w is p = (ap (λ (u : View). held_words p u) is.1, ap (λ (u : View). known_state p u) is.1)
+pub retired_knows : (root : ℕ) (v w : View) → Retires root v w → (p : ℕ) → KnowsSame p v w
+retired_knows zero v w is p = (ap (λ (u : View). held_words p u) is, ap (λ (u : View). known_state p u) is, ap (λ (u : View). held_unboxed p u) is)
+retired_knows (suc t) v w is p = (ap (λ (u : View). held_words p u) is.1, ap (λ (u : View). known_state p u) is.1, ap (λ (u : View). held_unboxed p u) is.1)
+
+-- and holds the same references
+retired_done : (root : ℕ) (v w : View) → Retires root v w → IsDoneWithBoxes v.shape v.log → IsDoneWithBoxes w.shape w.log
+retired_done zero v w is done = subst (λ (u : View). IsDoneWithBoxes u.shape u.log) (sym is) done
+retired_done (suc t) v w is done =
+    subst (λ (u : View). IsDoneWithBoxes u.shape u.log) (sym is.1)
+    (λ b. let d = done b in (d.0, d.1, d.2, d.3))
 
 retired_work : (root : ℕ) (v w : View) → Retires root v w → (used w.log ≡ used v.log) × (owes w.log ≡ owes v.log)
 retired_work zero v w is = (ap (λ (u : View). used u.log) is, ap (λ (u : View). owes u.log) is)
@@ -158,7 +170,7 @@ module _ (k : Shape) (class : ℕ) (called : Call) (said : Reply) (n : ℕ) (v w
       subst IsOut (sym same) (tried_out k class (took.Taken grew.table) v taken s grew.tried t (grew.tried.hands t (λ e. ne' (ap suc (sym e)))))))
 
   -- the words stand for the content once the write is made
-  stands_written : (p : ℕ) → p < container_count w.shape → has_lock p w.log ≡ true → Represents w.shape.texts (held_words p w) (known_state p w)
+  stands_written : (p : ℕ) → p < container_count w.shape → has_lock p w.log ≡ true → Represents w.shape.texts (held_unboxed p w) (known_state p w)
   stands_written p low has =
       let same = retired_same old grew.done w grew.retired in
       let shape : w.shape ≡ taken.shape = same.shape ∙ grew.wrote.pass.shape in
@@ -166,14 +178,14 @@ module _ (k : Shape) (class : ℕ) (called : Call) (said : Reply) (n : ℕ) (v w
       let mine : has_lock p taken.log ≡ true = sym (grew.wrote.pass.locks p) ∙ (sym (same.locks p) ∙ has) in
       let quiet : is_writing p taken.log ≡ false = grew.tried.same.writes p ∙ s.even p in
       let e = retired_knows old grew.done w grew.retired p in
-      let done : Represents taken.shape.texts (held_words p grew.done) (known_state p grew.done) =
+      let done : Represents taken.shape.texts (held_unboxed p grew.done) (known_state p grew.done) =
       dite (ℕ_discrete p at)
-      (λ (x : p ≡ at). subst (λ (q : ℕ). Represents taken.shape.texts (held_words q grew.done) (known_state q grew.done)) (sym x) grew.wrote.stands)
+      (λ (x : p ≡ at). subst (λ (q : ℕ). Represents taken.shape.texts (held_unboxed q grew.done) (known_state q grew.done)) (sym x) grew.wrote.stands)
       (λ ne.
       let o = grew.wrote.others p low' ne mine quiet in
-      subst (λ (x : ContainerWords × ContainerState). Represents taken.shape.texts x.0 x.1) (λ d. (sym o.0 d, sym o.1 d)) (tried_stands k class (took.Taken grew.table) v taken s grew.tried p low' mine)) in
-      subst (λ (z : Shape). Represents z.texts (held_words p w) (known_state p w)) (sym shape)
-      (subst (λ (x : ContainerWords × ContainerState). Represents taken.shape.texts x.0 x.1) (λ d. (sym e.0 d, sym e.1 d)) done)
+      subst (λ (x : ContainerWords × ContainerState). Represents taken.shape.texts x.0 x.1) (λ d. (sym o.2 d, sym o.1 d)) (tried_stands k class (took.Taken grew.table) v taken s grew.tried p low' mine)) in
+      subst (λ (z : Shape). Represents z.texts (held_unboxed p w) (known_state p w)) (sym shape)
+      (subst (λ (x : ContainerWords × ContainerState). Represents taken.shape.texts x.0 x.1) (λ d. (sym e.2 d, sym e.1 d)) done)
 
   pub grew_same : SamePass v w
   grew_same = pass_then v taken w grew.tried.same (pass_then taken grew.done w grew.wrote.pass (retired_same old grew.done w grew.retired))
@@ -181,12 +193,14 @@ module _ (k : Shape) (class : ℕ) (called : Call) (said : Reply) (n : ℕ) (v w
   pub grew_still : IsStill w
   grew_still =
       let r = retired_work old grew.done w grew.retired in
+      let boxes : IsDoneWithBoxes taken.shape taken.log = done_as v taken grew.tried.keeps.boxes.references grew.tried.keeps.boxes.made s.boxes in
       record {
         even = λ p. grew_same.writes p ∙ s.even p;
         hands = out_after;
         used = r.0 ∙ grew.wrote.used;
         owes = r.1 ∙ grew.wrote.owes;
         flight = grew_same.flight ∙ s.flight;
+        boxes = retired_done old grew.done w grew.retired (done_as taken grew.done grew.references grew.wrote.made boxes);
         stands = stands_written;
       }
 
@@ -204,7 +218,7 @@ module _ (b : Bank) (p q : Pass) (m : IsMaking b p) (pass : IsPassOf b q) (stack
 
   -- a pass that made a whole write and left the root
   pub making_wrote : (called : Call) (said : Reply) (n : ℕ) → WroteInPlace called said n u (view q) → IsMaking b q
-  making_wrote called said n x = making_same x.wrote.pass (wrote_still called said n u (view q) still_then x.wrote x.root)
+  making_wrote called said n x = making_same x.wrote.pass (wrote_still called said n u (view q) still_then x.wrote x.root x.references)
 
   -- an entry that isn't a write, after steps that leave the pass
   making_answered : (called : Call) (said : Reply) (n : ℕ) (z : View) → LeavesSections called → SamePass u z → IsStill z → Answered called said n z (view q) → IsMaking b q
@@ -264,10 +278,11 @@ module _ (called : Call) (said : Reply) (n : ℕ) (v w : View) (s : IsStill v) (
         used = r.0 ∙ given.wrote.used;
         owes = r.1 ∙ given.wrote.owes;
         flight = given_same.flight ∙ s.flight;
+        boxes = retired_done before given.done w given.retired (done_as v given.done given.references given.wrote.made s.boxes);
         stands = λ p low has.
             let e = retired_knows before given.done w given.retired p in
             let old = stands_after called said n v given.done s given.wrote p (subst (λ (z : Shape). p < container_count z) same.shape low) (sym (same.locks p) ∙ has) in
-            subst (λ (x : Shape × ContainerWords × ContainerState). Represents x.0.texts x.1 x.2) (λ d. (sym same.shape d, sym e.0 d, sym e.1 d)) old;
+            subst (λ (x : Shape × ContainerWords × ContainerState). Represents x.0.texts x.1 x.2) (λ d. (sym same.shape d, sym e.2 d, sym e.1 d)) old;
       }
 
 pub making_given : (b : Bank) (p q : Pass) → IsMaking b p → IsPassOf b q → stack_of q ≡ stack_of p → (u : View) → OnlyLoaded (view p) u → (called : Call) (said : Reply) (n : ℕ) → GaveUp called said n u (view q) → IsMaking b q

@@ -2,4 +2,6 @@ pub mod MemoryErrors
 pub mod Cursors
 pub mod Rooting
 pub mod GrowthMidst
+pub mod Dropped
+pub mod PlainTables
 pub mod TriedCalls

@@ -1,5 +1,5 @@
 -- MemoryErrors, at a load of the counter.
-use Rattle.std.proofs.Common.{◌≡◌, ℕ, ◌<◌, ◌≤◌, true, false, List, [], ◌∷◌, refl, subst}
+use Rattle.std.proofs.Common.{◌≡◌, ℕ, ◌<◌, ◌≤◌, true, false, List, [], ◌∷◌, refl}
 use Rattle.std.specs.Prelude.{Some}
 use Rattle.ft_model.specs.declared.call.Call.{Call}
 use Rattle.ft_model.specs.declared.reply.Reply.{Reply}
@@ -15,12 +15,13 @@ use Rattle.ft_bank.specs.Answered.{Answered}
 use Rattle.ft_bank.specs.Reads.{IsShown}
 use Rattle.ft_bank.specs.WriteSteps.{MayHave}
 use Rattle.ft_bank.proofs.ShownReplies.{memory_errors_are_shown, overs_are_shown}
+use Rattle.ft_bank.proofs.BoxedSteps.{boxes_same}
 use Rattle.ft_bank.proofs.KnownAfterWrites.{same_work}
 use Rattle.ft_search.proofs.Asking.{answered_locked}
 
 -- an entry at a load of the counter
 pub answered_at : (v w : View) (called : Call) (said : Reply) (n : ℕ) → w ≡ view_after (Answer called said n) (view_after (ReadCounter n) v) → v.learnt ≤ shown v.log → ∥ IsReachable w ∥₁ → Answered called said n v w
-answered_at v w called said n is settled possible = answered_locked v v w called said n [] (record { work = same_work v; words = refl }) refl is settled possible
+answered_at v w called said n is settled possible = answered_locked v v w called said n [] (record { work = same_work v; words = refl; unboxed = λ p low mine. refl; boxes = boxes_same v }) refl is settled possible
 
 module _ (v : View) (n : ℕ) where
   abbrev after : View

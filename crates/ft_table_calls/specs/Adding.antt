@@ -17,6 +17,7 @@ use Rattle.ft_bank.specs.declared.table.Table.{Table}
 use Rattle.ft_bank.specs.declared.takings.Took.{Took}
 use Rattle.ft_bank.specs.declared.takings.Took.TheVariants as took
 use Rattle.ft_bank.specs.Answered.{Answered}
+use Rattle.ft_bank.specs.SameBoxes.{SameReferences, SameMade}
 use Rattle.ft_bank.specs.Series.{noted_all}
 use Rattle.ft_bank.specs.TableNames.{table_id}
 use Rattle.ft_bank.specs.Takings.{HasNotMoved, HasTook, IsTaking, KeepsBut, StaysIn}
@@ -44,9 +45,12 @@ pub record TriedTaking (k : Shape) (class : ℕ) (result : Took) (v w : View) : 
   pub hands : (t : ℕ) → StaysIn result t → StaysOrGoes v w t
 
 -- The pass has loaded words of the bank and put words of tables that are fresh in its hand, and done nothing else: of
--- each container whose lock it has and that it doesn't write it knows the same. (profile)
+-- each container whose lock it has and that it doesn't write it knows the same, and it holds the same references of
+-- boxes. (profile)
 pub record OnlyFilled (v w : View) : Type 0 where
   pub work : SameWork v w
+  pub references : SameReferences v w
+  pub made : SameMade v w
   pub keeps : KeepsUnwritten v w
 
 -- the table that a root named is retired, if it named one
@@ -60,13 +64,16 @@ KeepsCursors v w = (number : ℕ) → cursor_in number w.log ≡ cursor_in numbe
 
 -- ---- the call
 
--- The pass made the call as one whole write, which left the root of the container. (profile)
+-- The pass made the call as one whole write, which left the root of the container, and holds the same references of
+-- boxes as before. (profile)
 pub record WroteInPlace (called : Call) (said : Reply) (number : ℕ) (v w : View) : Type 0 where
   pub wrote : Wrote called said number v w
   pub root : root_in (held_words (changes called) w) ≡ root_in (held_words (changes called) v)
+  pub references : SameReferences v w
 
 -- The pass took a table of this class and made the call as one whole write that put it into the root of the container
--- in the place of another table or of none, and then retired the table that the root named before. (profile)
+-- in the place of another table or of none, and holds the same references of boxes as before; then it retired the table
+-- that the root named before. (profile)
 pub record Grew (k : Shape) (class : ℕ) (called : Call) (said : Reply) (number : ℕ) (v w : View) : Type 0 where
   pub table : Table
   pub taken : View
@@ -75,14 +82,16 @@ pub record Grew (k : Shape) (class : ℕ) (called : Call) (said : Reply) (number
   pub done : View
   pub wrote : Wrote called said number taken done
   pub root : root_in (held_words (changes called) done) ≡ suc (table_id table)
+  pub references : SameReferences taken done
   pub retired : Retires (root_in (held_words (changes called) taken)) done w
 
--- The pass made the call as one whole write that left the container no table, and then retired the table that it had,
--- if it had one. (profile)
+-- The pass made the call as one whole write that left the container no table, and holds the same references of boxes as
+-- before; then it retired the table that the container had, if it had one. (profile)
 pub record GaveUp (called : Call) (said : Reply) (number : ℕ) (v w : View) : Type 0 where
   pub done : View
   pub wrote : Wrote called said number v done
   pub root : root_in (held_words (changes called) done) ≡ 0
+  pub references : SameReferences v done
   pub retired : Retires (root_in (held_words (changes called) v)) done w
 
 -- the write of a call that takes no table, or one of this class

@@ -1,5 +1,5 @@
 -- The words of the bank lie apart.
-use Rattle.std.proofs.Common.{◌≡◌, ℕ, Bool, true, false, ltb, zero, suc, ◌+◌, ◌-◌, ◌*◌, ◌/◌, ◌%◌, ◌<◌, ◌≤◌, List, [], ◌∷◌, ◌++◌, length, get_or, replicate, refl, sym, ap, ◌∙◌, arith, length-append}
+use Rattle.std.proofs.Common.{◌≡◌, ℕ, Bool, true, false, ltb, zero, suc, ◌+◌, ◌-◌, ◌*◌, ◌/◌, ◌%◌, ◌<◌, ◌≤◌, List, [], ◌∷◌, ◌++◌, length, get_or, cond, replicate, refl, sym, ap, ◌∙◌, arith, eqb, eq-eqb, length-append, lt-ltb, le-ltb}
 use Rattle.std.specs.Prelude.{slice_index}
 use Rattle.std.proofs.lemmas.List.{get_or-replicate, length-replicate}
 use Rattle.std.proofs.Math.Decide.{dec_lt}
@@ -7,12 +7,13 @@ use mathlib.Core.Logic.{dite}
 use native.Mathlib.Decide.{ℕ_discrete}
 use Rattle.ft_model.specs.Classes.{IsClass}
 use Rattle.ft_layout.specs.Sizes.{table_size}
-use Rattle.ft_layout.specs.Starts.{tables_of_class, heap_size, words_below, part_start, HasWord}
+use Rattle.ft_layout.specs.Starts.{tables_of_class, heap_start, words_below, part_start, HasWord}
 use Rattle.ft_layout.proofs.Powers.{words_below-more}
 use Rattle.ft_trace.specs.declared.Shape.{Shape}
-use Rattle.ft_trace.specs.Bits.{bit}
+use Rattle.ft_trace.specs.Bits.{bit, full}
+use Rattle.std.proofs.lemmas.Nat.{mod-mul-add}
 use Rattle.ft_trace.proofs.Bits.{bit_full}
-use Rattle.ft_trace.specs.Addresses.{Word, counter, write_number, announced_of, count_of_class, bits, lock_of, version_of, block, header, cell, container_count, tables_in, class_of, number_of, free_word_of, free_bit_of, slots, places, size, IsTableName, far, start_of, extent, at, Inside, free_counts, least, free_bits, free_words, opening, sizes_of, part_of}
+use Rattle.ft_trace.specs.Addresses.{Word, counter, write_number, announced_of, count_of_class, bits, lock_of, version_of, block, heap_bits, box_word, header, cell, maker_of, place_in, place_word_of, place_bit_of, IsBoxName, heap_words, heap_from, heap_first, first_word, listed, container_count, tables_in, class_of, number_of, free_word_of, free_bit_of, slots, places, size, IsTableName, far, start_of, extent, at, Inside, free_counts, least, free_bits, free_words, opening, sizes_of, part_of}
 
 pub up_mul : (n a b : ℕ) → a ≤ b → a * n ≤ b * n
 up_mul n zero b low = omega arith
@@ -48,10 +49,78 @@ pub extent_is : (k : Shape) → extent k ≡ far k + words_below k.tables 17
 unfolding extent
 extent_is k = refl
 
+-- ---- heaps
+pub heap_words_is : (k : Shape) → heap_words k ≡ k.heap / 64 + 4 * k.heap
+unfolding heap_words
+heap_words_is k = refl
+
+pub heap_next : (k : Shape) (q : ℕ) → heap_from k (suc q) ≡ heap_from k q + heap_words k
+unfolding heap_from
+heap_next k q = omega arith
+
+pub heap_is : (k : Shape) (q : ℕ) → heap_from k q ≡ heap_from k 0 + q * heap_words k
+unfolding heap_from
+heap_is k q = omega arith
+
+pub heap_low : (k : Shape) (q : ℕ) → 304 + 8 * container_count k ≤ heap_from k q
+unfolding heap_from
+heap_low k q = let p : 0 ≤ q * heap_words k = omega arith in omega (arith, p)
+
+pub heap_zero : (k : Shape) → heap_from k 0 ≡ 304 + 8 * container_count k
+unfolding heap_from
+heap_zero k = omega arith
+
+pub heap_up : (k : Shape) (a b : ℕ) → a ≤ b → heap_from k a ≤ heap_from k b
+heap_up k a b low = let h = up_mul (heap_words k) a b low in let x = heap_is k a in let y = heap_is k b in omega (arith, h, x, y)
+
+pub far_is : (k : Shape) → far k ≡ heap_from k k.passes
+unfolding far
+far_is k = refl
+
+-- the heap of a pass ends before the tables
+pub heap_high : (k : Shape) (q : ℕ) → q < k.passes → heap_from k q + heap_words k ≤ far k
+heap_high k q low = let n = heap_next k q in let u = heap_up k (suc q) k.passes (omega arith) in let f = far_is k in omega (arith, n, u, f)
+
+-- a word of two heaps is of one
+heap_same : (k : Shape) (q r x y : ℕ) → heap_from k q + x ≡ heap_from k r + y → x < heap_words k → y < heap_words k → q ≡ r
+heap_same k q r x y e a b =
+    dite (dec_lt q r) (λ less. let n = heap_next k q in let u = heap_up k (suc q) r (omega arith) in absurd (omega (arith, n, u, e, a, b)))
+    (λ no. dite (dec_lt r q) (λ less. let n = heap_next k r in let u = heap_up k (suc r) q (omega arith) in absurd (omega (arith, n, u, e, a, b)))
+    (λ no1. omega arith))
+
+pub same_box : (b c : ℕ) → maker_of b ≡ maker_of c → place_in b ≡ place_in c → b ≡ c
+unfolding maker_of place_in
+same_box b c m p = omega arith
+
+pub same_place : (b c : ℕ) → maker_of b ≡ maker_of c → place_word_of b ≡ place_word_of c → place_bit_of b ≡ place_bit_of c → b ≡ c
+unfolding place_word_of place_bit_of
+same_place b c m w p = same_box b c m (omega (arith, w, p))
+
+pub place_bit_low : (b : ℕ) → place_bit_of b < 64
+unfolding place_bit_of
+place_bit_low b = omega arith
+
+bits_in : (k : Shape) (q w : ℕ) → Inside k (heap_bits q w) → w < heap_words k
+bits_in k q w in_it = let h = heap_words_is k in let l = in_it.1 in omega (arith, h, l)
+
+box_in : (k : Shape) (b i : ℕ) → Inside k (box_word b i) → k.heap / 64 + 4 * place_in b + i < heap_words k
+box_in k b i in_it = let h = heap_words_is k in let l = in_it.0.1 in let m = in_it.1 in omega (arith, h, l, m)
+
+bits_far : (k : Shape) (q w : ℕ) → Inside k (heap_bits q w) → at k (heap_bits q w) < far k
+bits_far k q w in_it = let h = heap_high k q in_it.0 in let l = bits_in k q w in_it in omega (arith, h, l)
+
+box_far : (k : Shape) (b i : ℕ) → Inside k (box_word b i) → at k (box_word b i) < far k
+box_far k b i in_it = let h = heap_high k (maker_of b) in_it.0.0 in let l = box_in k b i in_it in omega (arith, h, l)
+
+box_up : (k : Shape) (b i : ℕ) → 304 + 8 * container_count k ≤ at k (box_word b i)
+box_up k b i = let l = heap_low k (maker_of b) in omega (arith, l)
+
+bits_up : (k : Shape) (q w : ℕ) → 304 + 8 * container_count k ≤ at k (heap_bits q w)
+bits_up k q w = let l = heap_low k q in omega (arith, l)
+
 -- tables lie after the blocks
 pub far_up : (k : Shape) → 304 + 8 * container_count k ≤ far k
-unfolding far
-far_up k = let p : 0 ≤ k.passes * heap_size k.heap = omega arith in omega (arith, p)
+far_up k = let e = far_is k in let l = heap_low k k.passes in omega (arith, e, l)
 
 pub far_low : (k : Shape) → far k ≤ extent k
 far_low k = let e = extent_is k in let p : 0 ≤ words_below k.tables 17 = omega arith in omega (arith, e, p)
@@ -67,6 +136,13 @@ start_low k t =
     let p : 0 ≤ words_below k.tables (class_of t) = omega arith in
     let q : 0 ≤ number_of t * (2 + size (class_of t)) = omega arith in
     omega (arith, e, f, p, q)
+
+start_far : (k : Shape) (t : ℕ) → far k ≤ start_of k t
+start_far k t =
+    let e = start_is k t in
+    let p : 0 ≤ words_below k.tables (class_of t) = omega arith in
+    let q : 0 ≤ number_of t * (2 + size (class_of t)) = omega arith in
+    omega (arith, e, p, q)
 
 -- where the tables of its class, and it, end
 end_class : (k : Shape) (t : ℕ) → IsTableName k t → start_of k t + 2 + size (class_of t) ≤ far k + words_below k.tables (suc (class_of t))
@@ -120,6 +196,8 @@ at_low k (bits c) in_it = let e = far_up k in let f = far_low k in omega (arith,
 at_low k (lock_of o) in_it = let e = far_up k in let f = far_low k in omega (arith, e, f)
 at_low k (version_of o) in_it = let e = far_up k in let f = far_low k in omega (arith, e, f)
 at_low k (block o i) in_it = let e = far_up k in let f = far_low k in let l = in_it.0 in let m = in_it.1 in omega (arith, e, f)
+at_low k (heap_bits q w) in_it = let h = bits_far k q w in_it in let f = far_low k in omega (arith, h, f)
+at_low k (box_word b i) in_it = let h = box_far k b i in_it in let f = far_low k in omega (arith, h, f)
 at_low k (header t) in_it = let h = start_high k t in_it in omega arith
 at_low k (cell t i) in_it = let h = start_high k t in_it.0 in let l = in_it.1 in omega arith
 at_low k counter in_it = let e = far_up k in let f = far_low k in omega (arith, e, f)
@@ -133,6 +211,8 @@ at_apart k counter (cell t i) a b e = let l = start_low k t in absurd (omega ari
 at_apart k counter (announced_of s) a b e = let b0 = b.0 in let b1 = b.1 in absurd (omega arith)
 at_apart k counter (count_of_class s) a b e = let b0 = b.least in let b1 = b.greatest in absurd (omega arith)
 at_apart k counter (block s i) a b e = let b0 = b.0 in let b1 = b.1 in absurd (omega arith)
+at_apart k counter (heap_bits r n) a b e = let l = bits_up k r n in absurd (omega arith)
+at_apart k counter (box_word c n) a b e = let l = box_up k c n in absurd (omega arith)
 at_apart k counter y a b e = absurd (omega arith)
 at_apart k write_number write_number a b e = refl
 at_apart k write_number (header t) a b e = let l = start_low k t in absurd (omega arith)
@@ -140,18 +220,24 @@ at_apart k write_number (cell t i) a b e = let l = start_low k t in absurd (omeg
 at_apart k write_number (announced_of s) a b e = let b0 = b.0 in let b1 = b.1 in absurd (omega arith)
 at_apart k write_number (count_of_class s) a b e = let b0 = b.least in let b1 = b.greatest in absurd (omega arith)
 at_apart k write_number (block s i) a b e = let b0 = b.0 in let b1 = b.1 in absurd (omega arith)
+at_apart k write_number (heap_bits r n) a b e = let l = bits_up k r n in absurd (omega arith)
+at_apart k write_number (box_word c n) a b e = let l = box_up k c n in absurd (omega arith)
 at_apart k write_number y a b e = absurd (omega arith)
 at_apart k (announced_of p) (announced_of q) a b e = let a0 = a.0 in let a1 = a.1 in let b0 = b.0 in let b1 = b.1 in ap announced_of (omega arith)
 at_apart k (announced_of p) (header t) a b e = let a0 = a.0 in let a1 = a.1 in let l = start_low k t in absurd (omega arith)
 at_apart k (announced_of p) (cell t i) a b e = let a0 = a.0 in let a1 = a.1 in let l = start_low k t in absurd (omega arith)
 at_apart k (announced_of p) (count_of_class s) a b e = let a0 = a.0 in let a1 = a.1 in let b0 = b.least in let b1 = b.greatest in absurd (omega arith)
 at_apart k (announced_of p) (block s i) a b e = let a0 = a.0 in let a1 = a.1 in let b0 = b.0 in let b1 = b.1 in absurd (omega arith)
+at_apart k (announced_of p) (heap_bits r n) a b e = let a0 = a.0 in let a1 = a.1 in let l = bits_up k r n in absurd (omega arith)
+at_apart k (announced_of p) (box_word c n) a b e = let a0 = a.0 in let a1 = a.1 in let l = box_up k c n in absurd (omega arith)
 at_apart k (announced_of p) y a b e = let a0 = a.0 in let a1 = a.1 in absurd (omega arith)
 at_apart k (count_of_class p) (count_of_class q) a b e = let a0 = a.least in let a1 = a.greatest in let b0 = b.least in let b1 = b.greatest in ap count_of_class (omega arith)
 at_apart k (count_of_class p) (header t) a b e = let a0 = a.least in let a1 = a.greatest in let l = start_low k t in absurd (omega arith)
 at_apart k (count_of_class p) (cell t i) a b e = let a0 = a.least in let a1 = a.greatest in let l = start_low k t in absurd (omega arith)
 at_apart k (count_of_class p) (announced_of s) a b e = let a0 = a.least in let a1 = a.greatest in let b0 = b.0 in let b1 = b.1 in absurd (omega arith)
 at_apart k (count_of_class p) (block s i) a b e = let a0 = a.least in let a1 = a.greatest in let b0 = b.0 in let b1 = b.1 in absurd (omega arith)
+at_apart k (count_of_class p) (heap_bits r n) a b e = let a0 = a.least in let a1 = a.greatest in let l = bits_up k r n in absurd (omega arith)
+at_apart k (count_of_class p) (box_word c n) a b e = let a0 = a.least in let a1 = a.greatest in let l = box_up k c n in absurd (omega arith)
 at_apart k (count_of_class p) y a b e = let a0 = a.least in let a1 = a.greatest in absurd (omega arith)
 at_apart k (bits p) (bits q) a b e = ap bits (omega arith)
 at_apart k (bits p) (header t) a b e = let l = start_low k t in absurd (omega arith)
@@ -159,6 +245,8 @@ at_apart k (bits p) (cell t i) a b e = let l = start_low k t in absurd (omega ar
 at_apart k (bits p) (announced_of s) a b e = let b0 = b.0 in let b1 = b.1 in absurd (omega arith)
 at_apart k (bits p) (count_of_class s) a b e = let b0 = b.least in let b1 = b.greatest in absurd (omega arith)
 at_apart k (bits p) (block s i) a b e = let b0 = b.0 in let b1 = b.1 in absurd (omega arith)
+at_apart k (bits p) (heap_bits r n) a b e = let a0 = a in let l = bits_up k r n in absurd (omega arith)
+at_apart k (bits p) (box_word c n) a b e = let a0 = a in let l = box_up k c n in absurd (omega arith)
 at_apart k (bits p) y a b e = absurd (omega arith)
 at_apart k (lock_of p) (lock_of q) a b e = ap lock_of (omega arith)
 at_apart k (lock_of p) (header t) a b e = let l = start_low k t in absurd (omega arith)
@@ -166,6 +254,8 @@ at_apart k (lock_of p) (cell t i) a b e = let l = start_low k t in absurd (omega
 at_apart k (lock_of p) (block o i) a b e = let m = b.1 in absurd (omega arith)
 at_apart k (lock_of p) (announced_of s) a b e = let b0 = b.0 in let b1 = b.1 in absurd (omega arith)
 at_apart k (lock_of p) (count_of_class s) a b e = let b0 = b.least in let b1 = b.greatest in absurd (omega arith)
+at_apart k (lock_of p) (heap_bits r n) a b e = let a0 = a in let l = bits_up k r n in absurd (omega arith)
+at_apart k (lock_of p) (box_word c n) a b e = let a0 = a in let l = box_up k c n in absurd (omega arith)
 at_apart k (lock_of p) y a b e = absurd (omega arith)
 at_apart k (version_of p) (version_of q) a b e = ap version_of (omega arith)
 at_apart k (version_of p) (header t) a b e = let l = start_low k t in absurd (omega arith)
@@ -173,6 +263,8 @@ at_apart k (version_of p) (cell t i) a b e = let l = start_low k t in absurd (om
 at_apart k (version_of p) (block o i) a b e = let m = b.1 in absurd (omega arith)
 at_apart k (version_of p) (announced_of s) a b e = let b0 = b.0 in let b1 = b.1 in absurd (omega arith)
 at_apart k (version_of p) (count_of_class s) a b e = let b0 = b.least in let b1 = b.greatest in absurd (omega arith)
+at_apart k (version_of p) (heap_bits r n) a b e = let a0 = a in let l = bits_up k r n in absurd (omega arith)
+at_apart k (version_of p) (box_word c n) a b e = let a0 = a in let l = box_up k c n in absurd (omega arith)
 at_apart k (version_of p) y a b e = absurd (omega arith)
 at_apart k (block o i) (block q j) a b e = let m = a.1 in let n = b.1 in let x : o ≡ q = omega arith in let y : i ≡ j = omega arith in λ d. block (x d) (y d)
 at_apart k (block o i) (header t) a b e = let l = start_low k t in let m = a.0 in let n = a.1 in absurd (omega arith)
@@ -181,6 +273,8 @@ at_apart k (block o i) (lock_of q) a b e = let m = a.1 in absurd (omega arith)
 at_apart k (block o i) (version_of q) a b e = let m = a.1 in absurd (omega arith)
 at_apart k (block o i) (announced_of s) a b e = let m = a.1 in let b0 = b.0 in let b1 = b.1 in absurd (omega arith)
 at_apart k (block o i) (count_of_class s) a b e = let m = a.1 in let b0 = b.least in let b1 = b.greatest in absurd (omega arith)
+at_apart k (block o i) (heap_bits r n) a b e = let a0 = a.0 in let a1 = a.1 in let l = bits_up k r n in absurd (omega arith)
+at_apart k (block o i) (box_word c n) a b e = let a0 = a.0 in let a1 = a.1 in let l = box_up k c n in absurd (omega arith)
 at_apart k (block o i) y a b e = absurd (omega arith)
 at_apart k (header t) (header q) a b e = ap header (start_apart k t q a b (omega arith) (omega arith))
 at_apart k (header t) (cell q i) a b e =
@@ -191,6 +285,8 @@ at_apart k (header t) (cell q i) a b e =
 at_apart k (header t) (block o i) a b e = let l = start_low k t in let m = b.0 in let n = b.1 in absurd (omega arith)
 at_apart k (header t) (announced_of s) a b e = let l = start_low k t in let b0 = b.0 in let b1 = b.1 in absurd (omega arith)
 at_apart k (header t) (count_of_class s) a b e = let l = start_low k t in let b0 = b.least in let b1 = b.greatest in absurd (omega arith)
+at_apart k (header t) (heap_bits r n) a b e = let l = bits_far k r n b in let f = start_far k t in absurd (omega arith)
+at_apart k (header t) (box_word c n) a b e = let l = box_far k c n b in let f = start_far k t in absurd (omega arith)
 at_apart k (header t) y a b e = let l = start_low k t in absurd (omega arith)
 at_apart k (cell t i) (cell q j) a b e =
     let l = a.1 in
@@ -207,7 +303,53 @@ at_apart k (cell t i) (header q) a b e =
 at_apart k (cell t i) (block o j) a b e = let l = start_low k t in let m = b.0 in let n = b.1 in absurd (omega arith)
 at_apart k (cell t i) (announced_of s) a b e = let l = start_low k t in let b0 = b.0 in let b1 = b.1 in absurd (omega arith)
 at_apart k (cell t i) (count_of_class s) a b e = let l = start_low k t in let b0 = b.least in let b1 = b.greatest in absurd (omega arith)
+at_apart k (cell t i) (heap_bits r n) a b e = let l = bits_far k r n b in let f = start_far k t in absurd (omega arith)
+at_apart k (cell t i) (box_word c n) a b e = let l = box_far k c n b in let f = start_far k t in absurd (omega arith)
 at_apart k (cell t i) y a b e = let l = start_low k t in absurd (omega arith)
+at_apart k (heap_bits q w) counter a b e = let l = bits_up k q w in absurd (omega arith)
+at_apart k (heap_bits q w) write_number a b e = let l = bits_up k q w in absurd (omega arith)
+at_apart k (heap_bits q w) (announced_of p) a b e = let b0 = b.0 in let b1 = b.1 in let l = bits_up k q w in absurd (omega arith)
+at_apart k (heap_bits q w) (count_of_class p) a b e = let b0 = b.least in let b1 = b.greatest in let l = bits_up k q w in absurd (omega arith)
+at_apart k (heap_bits q w) (bits p) a b e = let b0 = b in let l = bits_up k q w in absurd (omega arith)
+at_apart k (heap_bits q w) (lock_of p) a b e = let b0 = b in let l = bits_up k q w in absurd (omega arith)
+at_apart k (heap_bits q w) (version_of p) a b e = let b0 = b in let l = bits_up k q w in absurd (omega arith)
+at_apart k (heap_bits q w) (block o j) a b e = let b0 = b.0 in let b1 = b.1 in let l = bits_up k q w in absurd (omega arith)
+at_apart k (heap_bits q w) (header t) a b e = let l = bits_far k q w a in let f = start_far k t in absurd (omega arith)
+at_apart k (heap_bits q w) (cell t j) a b e = let l = bits_far k q w a in let f = start_far k t in absurd (omega arith)
+at_apart k (box_word c n) counter a b e = let l = box_up k c n in absurd (omega arith)
+at_apart k (box_word c n) write_number a b e = let l = box_up k c n in absurd (omega arith)
+at_apart k (box_word c n) (announced_of p) a b e = let b0 = b.0 in let b1 = b.1 in let l = box_up k c n in absurd (omega arith)
+at_apart k (box_word c n) (count_of_class p) a b e = let b0 = b.least in let b1 = b.greatest in let l = box_up k c n in absurd (omega arith)
+at_apart k (box_word c n) (bits p) a b e = let b0 = b in let l = box_up k c n in absurd (omega arith)
+at_apart k (box_word c n) (lock_of p) a b e = let b0 = b in let l = box_up k c n in absurd (omega arith)
+at_apart k (box_word c n) (version_of p) a b e = let b0 = b in let l = box_up k c n in absurd (omega arith)
+at_apart k (box_word c n) (block o j) a b e = let b0 = b.0 in let b1 = b.1 in let l = box_up k c n in absurd (omega arith)
+at_apart k (box_word c n) (header t) a b e = let l = box_far k c n a in let f = start_far k t in absurd (omega arith)
+at_apart k (box_word c n) (cell t j) a b e = let l = box_far k c n a in let f = start_far k t in absurd (omega arith)
+at_apart k (heap_bits q w) (heap_bits r n) a b e =
+    let s : q ≡ r = heap_same k q r w n e (bits_in k q w a) (bits_in k r n b) in
+    let f : heap_from k q ≡ heap_from k r = ap (heap_from k) s in
+    let x : w ≡ n = omega (arith, e, f) in
+    λ d. heap_bits (s d) (x d)
+at_apart k (heap_bits q w) (box_word c n) a b e =
+    let s : q ≡ maker_of c = heap_same k q (maker_of c) w (k.heap / 64 + 4 * place_in c + n) (omega (arith, e)) (bits_in k q w a) (box_in k c n b) in
+    let f : heap_from k q ≡ heap_from k (maker_of c) = ap (heap_from k) s in
+    let l = a.1 in
+    absurd (omega (arith, e, f, l))
+at_apart k (box_word c n) (heap_bits q w) a b e =
+    let s : maker_of c ≡ q = heap_same k (maker_of c) q (k.heap / 64 + 4 * place_in c + n) w (omega (arith, e)) (box_in k c n a) (bits_in k q w b) in
+    let f : heap_from k (maker_of c) ≡ heap_from k q = ap (heap_from k) s in
+    let l = b.1 in
+    absurd (omega (arith, e, f, l))
+at_apart k (box_word c n) (box_word h m) a b e =
+    let s : maker_of c ≡ maker_of h = heap_same k (maker_of c) (maker_of h) (k.heap / 64 + 4 * place_in c + n) (k.heap / 64 + 4 * place_in h + m) (omega (arith, e)) (box_in k c n a) (box_in k h m b) in
+    let f : heap_from k (maker_of c) ≡ heap_from k (maker_of h) = ap (heap_from k) s in
+    let l = a.1 in
+    let r = b.1 in
+    let x : place_in c ≡ place_in h = omega (arith, e, f, l, r) in
+    let y : n ≡ m = omega (arith, e, f, l, r) in
+    let z : c ≡ h = same_box c h s x in
+    λ d. box_word (z d) (y d)
 
 in_front : (xs ys : List ℕ) (i d : ℕ) → i < length xs → get_or (xs ++ ys) i d ≡ get_or xs i d
 in_front [] ys i d low = absurd (omega arith)
@@ -276,6 +418,15 @@ least_up : (x : Bool) (b n : ℕ) → b < 64 → b < n → b < least x n
 least_up true b n low less = less
 least_up false b n low less = low
 
+listed_long : (f : ℕ → ℕ) (from n : ℕ) → length (listed f from n) ≡ n
+listed_long f from zero = refl
+listed_long f from (suc n) = ap suc (listed_long f (suc from) n)
+
+listed_at : (f : ℕ → ℕ) (from n i : ℕ) → i < n → get_or (listed f from n) i 0 ≡ f (from + i)
+listed_at f from zero i low = absurd (omega arith)
+listed_at f from (suc n) zero low = ap f (omega arith)
+listed_at f from (suc n) (suc i) low = listed_at f (suc from) n i (omega arith) ∙ ap f (omega arith)
+
 module _ (k : Shape) where
   abbrev Anns : List ℕ
   Anns = replicate {A = ℕ} 64 0
@@ -287,7 +438,7 @@ module _ (k : Shape) where
   Frees = free_words k.tables 0 224
 
   abbrev Rest : List ℕ
-  Rest = replicate {A = ℕ} (extent k - 304) 0
+  Rest = listed (first_word k) 304 (extent k - 304)
 
   long_anns : length Anns ≡ 64
   long_anns = length-replicate {A = ℕ} 64 0
@@ -299,7 +450,7 @@ module _ (k : Shape) where
   long_frees = free_long k.tables 0 224
 
   long_rest : length Rest ≡ extent k - 304
-  long_rest = length-replicate {A = ℕ} (extent k - 304) 0
+  long_rest = listed_long (first_word k) 304 (extent k - 304)
 
   parts : (xs cs fs rs : List ℕ) → length xs ≡ 64 → length cs ≡ 14 → length fs ≡ 224 → length rs ≡ extent k - 304 → length (0 ∷ 1 ∷ (xs ++ (cs ++ (fs ++ rs)))) ≡ extent k
   parts xs cs fs rs a b c d =
@@ -356,13 +507,65 @@ module _ (k : Shape) where
   pub ann_first : (p : ℕ) → 0 < p → p ≤ 64 → slice_index (opening k) (at k (announced_of p)) ≡ 0
   ann_first p up low = part_anns Anns (Counts ++ (Frees ++ Rest)) (p - 1) long_anns (omega arith) ∙ get_or-replicate {A = ℕ} 64 (p - 1) 0 0 (omega arith)
 
-  pub rest_first : (i : ℕ) → 304 ≤ i → i < extent k → slice_index (opening k) i ≡ 0
+  rest_first : (i : ℕ) → 304 ≤ i → i < extent k → slice_index (opening k) i ≡ first_word k i
   rest_first i up low =
       let n : i ≡ 304 + (i - 304) = omega arith in
-      ap (λ (z : ℕ). get_or (opening k) z 0) n ∙ (part_rest Anns Counts Frees Rest (i - 304) long_anns long_counts long_frees ∙ get_or-replicate {A = ℕ} (extent k - 304) (i - 304) 0 0 (omega arith))
+      ap (λ (z : ℕ). get_or (opening k) z 0) n ∙ (part_rest Anns Counts Frees Rest (i - 304) long_anns long_counts long_frees ∙ (listed_at (first_word k) 304 (extent k - 304) (i - 304) (omega arith) ∙ ap (first_word k) (sym n)))
+
+if_true : {A : Type 0} (b : Bool) (x y : A) → b ≡ true → cond b x y ≡ x
+if_true b x y e = ap (λ (z : Bool). cond z x y) e
+
+if_false : {A : Type 0} (b : Bool) (x y : A) → b ≡ false → cond b x y ≡ y
+if_false b x y e = ap (λ (z : Bool). cond z x y) e
 
 low_first : (k : Shape) (i : ℕ) → 304 ≤ i → i < 304 + 8 * container_count k → slice_index (opening k) i ≡ 0
-low_first k i up low = rest_first k i up (let e = far_up k in let f = far_low k in omega (arith, e, f))
+low_first k i up low =
+    let z = heap_zero k in
+    rest_first k i up (let e = far_up k in let f = far_low k in omega (arith, e, f))
+    ∙ if_true (ltb i (heap_from k 0)) 0 (cond (ltb i (far k)) (heap_first k ((i - heap_from k 0) % heap_words k)) 0) (lt-ltb i (heap_from k 0) (omega (arith, z, low)))
+
+far_first : (k : Shape) (i : ℕ) → far k ≤ i → i < extent k → slice_index (opening k) i ≡ 0
+far_first k i up low =
+    let z = heap_zero k in
+    let f = far_up k in
+    rest_first k i (omega (arith, f, up)) low
+    ∙ (if_false (ltb i (heap_from k 0)) 0 (cond (ltb i (far k)) (heap_first k ((i - heap_from k 0) % heap_words k)) 0) (le-ltb i (heap_from k 0) (omega (arith, z, f, up)))
+    ∙ if_false (ltb i (far k)) (heap_first k ((i - heap_from k 0) % heap_words k)) 0 (le-ltb i (far k) up))
+
+-- a word of a heap at the start
+heap_word_first : (k : Shape) (q r : ℕ) → q < k.passes → r < heap_words k → slice_index (opening k) (heap_from k q + r) ≡ heap_first k r
+heap_word_first k q r low less =
+    let h = heap_high k q low in
+    let f = far_low k in
+    let l = heap_low k q in
+    let z = heap_is k q in
+    let u = heap_up k 0 q (omega arith) in
+    let i : ℕ = heap_from k q + r in
+    let n : i - heap_from k 0 ≡ q * heap_words k + r = omega (arith, z) in
+    rest_first k i (omega (arith, l)) (omega (arith, h, f, less))
+    ∙ (if_false (ltb i (heap_from k 0)) 0 (cond (ltb i (far k)) (heap_first k ((i - heap_from k 0) % heap_words k)) 0) (le-ltb i (heap_from k 0) (omega (arith, u)))
+    ∙ (if_true (ltb i (far k)) (heap_first k ((i - heap_from k 0) % heap_words k)) 0 (lt-ltb i (far k) (omega (arith, h, less)))
+    ∙ ap (heap_first k) (ap (λ (x : ℕ). x % heap_words k) n ∙ mod-mul-add q (heap_words k) r less)))
+
+-- all places are free, and all boxes are dead
+pub place_first : (k : Shape) (b : ℕ) → IsBoxName k b → bit (place_bit_of b) (slice_index (opening k) (at k (heap_bits (maker_of b) (place_word_of b)))) ≡ 1
+place_first k b is =
+    let w = is.2 in
+    let h = heap_words_is k in
+    ap (bit (place_bit_of b)) (heap_word_first k (maker_of b) (place_word_of b) is.0 (omega (arith, w, h)) ∙ if_true (ltb (place_word_of b) (k.heap / 64)) (full 64) (cond (eqb ((place_word_of b - k.heap / 64) % 4) 0) 3 0) (lt-ltb (place_word_of b) (k.heap / 64) w))
+    ∙ bit_full 64 (place_bit_of b) (place_bit_low b)
+
+pub box_first : (k : Shape) (b : ℕ) → IsBoxName k b → slice_index (opening k) (at k (box_word b 0)) ≡ 3
+box_first k b is =
+    let h = heap_words_is k in
+    let low = is.1 in
+    let r : ℕ = k.heap / 64 + 4 * place_in b in
+    let e : at k (box_word b 0) ≡ heap_from k (maker_of b) + r = omega arith in
+    let m : (r - k.heap / 64) % 4 ≡ 0 = omega arith in
+    ap (λ (z : ℕ). slice_index (opening k) z) e
+    ∙ (heap_word_first k (maker_of b) r is.0 (omega (arith, h, low))
+    ∙ (if_false (ltb r (k.heap / 64)) (full 64) (cond (eqb ((r - k.heap / 64) % 4) 0) 3 0) (le-ltb r (k.heap / 64) (omega arith))
+    ∙ if_true (eqb ((r - k.heap / 64) % 4) 0) 3 0 (eq-eqb ((r - k.heap / 64) % 4) 0 m)))
 
 pub lock_first : (k : Shape) (o : ℕ) → o < container_count k → slice_index (opening k) (at k (lock_of o)) ≡ 0
 lock_first k o low = low_first k (at k (lock_of o)) (omega arith) (omega arith)
@@ -374,11 +577,15 @@ pub block_first : (k : Shape) (o i : ℕ) → o < container_count k → i < 6 �
 block_first k o i low small = low_first k (at k (block o i)) (omega arith) (omega arith)
 
 pub cell_first : (k : Shape) (t i : ℕ) → IsTableName k t → i < size (class_of t) → slice_index (opening k) (at k (cell t i)) ≡ 0
-cell_first k t i table small = rest_first k (at k (cell t i)) (let l = start_low k t in omega (arith, l)) (at_low k (cell t i) (table, small))
+cell_first k t i table small = far_first k (at k (cell t i)) (let l = start_far k t in omega (arith, l)) (at_low k (cell t i) (table, small))
 
 start_part : (k : Shape) (t : ℕ) → start_of k t ≡ part_start (sizes_of k) (part_of (header t))
-unfolding far start_of
+unfolding far start_of heap_from heap_words
 start_part k t = refl
+
+heap_part : (k : Shape) (q : ℕ) → heap_from k q ≡ heap_start (container_count k) k.heap q
+unfolding heap_from heap_words
+heap_part k q = refl
 
 -- each word lies in its part of the bank
 pub in_part : (k : Shape) (x : Word) → Inside k x → HasWord (sizes_of k) (part_of x) (at k x)
@@ -390,5 +597,7 @@ in_part k (bits w) in_it = record { is_part = (record { least = omega arith; gre
 in_part k (lock_of o) in_it = record { is_part = in_it; from = omega arith; before = omega arith }
 in_part k (version_of o) in_it = record { is_part = in_it; from = omega arith; before = omega arith }
 in_part k (block o i) in_it = let l = in_it.1 in record { is_part = in_it.0; from = omega arith; before = omega (arith, l) }
+in_part k (heap_bits q w) in_it = let h = heap_part k q in record { is_part = in_it; from = omega (arith, h); before = omega (arith, h) }
+in_part k (box_word b i) in_it = let h = heap_part k (maker_of b) in let l = in_it.1 in record { is_part = (in_it.0.0, in_it.0.1); from = omega (arith, h); before = omega (arith, h, l) }
 in_part k (header t) in_it = let s = start_part k t in let z = table_size_is (class_of t) in record { is_part = (in_it.0, in_it.1); from = omega (arith, s); before = omega (arith, s, z) }
 in_part k (cell t i) in_it = let s = start_part k t in let z = table_size_is (class_of t) in let l = in_it.1 in record { is_part = (in_it.0.0, in_it.0.1); from = omega (arith, s); before = omega (arith, s, z, l) }

@@ -7,7 +7,7 @@ use lib.ListN.{get_elem?}
 use Rattle.ft_trace.specs.declared.Shape.{Shape}
 use Rattle.ft_trace.specs.declared.View.{View}
 use Rattle.ft_trace.specs.declared.Act.{Act}
-use Rattle.ft_trace.specs.declared.Act.TheVariants.{ReadRoot, ReadTable, ReadCounter, Version}
+use Rattle.ft_trace.specs.declared.Act.TheVariants.{ReadBox, ReadRoot, ReadTable, ReadCounter, Version}
 use Rattle.ft_trace.specs.Acts.{reads}
 use Rattle.ft_trace.specs.Addresses.{IsTableName, container_count}
 use Rattle.ft_trace.specs.LoggedLookUps.{Online, LookUpWindow, Inner, IsNew}
@@ -27,6 +27,7 @@ inner_reads t [] l q = refl
 inner_reads t (Version o f ∷ mid) l q = inner_reads t mid l q
 inner_reads t (ReadTable p i f ∷ mid) l q = inner_reads t mid l q
 inner_reads t (ReadCounter f ∷ mid) l q = inner_reads t mid l q
+inner_reads t (ReadBox b i f ∷ mid) l q = inner_reads t mid l q
 inner_reads t (act ∷ mid) l q = absurd q
 
 pub inner_online : (mid : List Act) (a : Act) → Inner mid → Online (a ∷ []) → Online (mid ++ a ∷ [])
@@ -34,6 +35,7 @@ inner_online [] a q on = on
 inner_online (Version o f ∷ mid) a q on = inner_online mid a q on
 inner_online (ReadTable p i f ∷ mid) a q on = inner_online mid a q on
 inner_online (ReadCounter f ∷ mid) a q on = inner_online mid a q on
+inner_online (ReadBox b i f ∷ mid) a q on = inner_online mid a q on
 inner_online (act ∷ mid) a q on = absurd q
 
 -- the table of a root

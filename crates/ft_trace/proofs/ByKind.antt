@@ -12,8 +12,8 @@ use Rattle.ft_trace.specs.Pictures.{walk_of, entry_offset}
 use Rattle.ft_trace.specs.Carefuls.{Sound, Later}
 use Rattle.ft_trace.specs.ItemWords.{ItemSound, ItemLater}
 use Rattle.ft_trace.specs.Kinds.{under, rows, version_at, SoundAs, CarefulAs, ClearAs, LaterAs, IsKeyed, IsItems}
-use Rattle.ft_trace.proofs.Carefuls.{later_self, later_trans, careful_later, careful_sound, clear_sound}
-use Rattle.ft_trace.proofs.Items.{item_self, item_trans, item_careful_later, item_careful_sound, item_clear_sound}
+use Rattle.ft_trace.proofs.Carefuls.{CarefulWords, put_later, later_self, later_trans, careful_sound, clear_sound}
+use Rattle.ft_trace.proofs.Items.{ItemCarefulWords, item_self, item_trans, item_put_later, item_careful_sound, item_clear_sound}
 
 pub as_self : (kind : Kind) (c : ℕ) (ws : List ℕ) → LaterAs kind c ws ws
 as_self kind.List c ws = item_self (slots c) ws
@@ -27,11 +27,18 @@ as_trans kind.Dict c ws ys zs a b = later_trans (slots c) (places c) ws ys zs a 
 as_trans kind.Set c ws ys zs a b = later_trans (slots c) (set_entries c) ws ys zs a b
 as_trans (kind.Deque bound) c ws ys zs a b = tt
 
-pub as_later : (kind : Kind) (c : ℕ) (ws : List ℕ) (d : Content) (i x : ℕ) → length ws ≡ size c → i < size c → CarefulAs kind c ws d i x → LaterAs kind c ws (slice_set ws i x)
-as_later kind.List c ws d i x long low care = item_careful_later (slots c) (size c) ws (list_of d) i x long low care
-as_later kind.Dict c ws d i x long low care = careful_later (slots c) (places c) (size c) ws (under d) i x long low care
-as_later kind.Set c ws d i x long low care = careful_later (slots c) (set_entries c) (size c) ws (under d) i x long low care
-as_later (kind.Deque bound) c ws d i x long low care = tt
+-- what is asked of a put but for what the content has
+abbrev pub CarefulWordsAs : Kind → ℕ → List ℕ → ℕ → ℕ → Type 0
+CarefulWordsAs kind.List class ws i x = ItemCarefulWords (slots class) ws i x
+CarefulWordsAs kind.Dict class ws i x = CarefulWords (slots class) (places class) ws i x
+CarefulWordsAs kind.Set class ws i x = CarefulWords (slots class) (set_entries class) ws i x
+CarefulWordsAs (kind.Deque bound) class ws i x = Unit {0}
+
+pub as_later : (kind : Kind) (c : ℕ) (ws : List ℕ) (i x : ℕ) → length ws ≡ size c → i < size c → CarefulWordsAs kind c ws i x → LaterAs kind c ws (slice_set ws i x)
+as_later kind.List c ws i x long low care = item_put_later (slots c) (size c) ws i x long low care
+as_later kind.Dict c ws i x long low care = put_later (slots c) (places c) (size c) ws i x long low care
+as_later kind.Set c ws i x long low care = put_later (slots c) (set_entries c) (size c) ws i x long low care
+as_later (kind.Deque bound) c ws i x long low care = tt
 
 pub as_sound : (kind : Kind) (texts : List ℕ) (c : ℕ) (ws : List ℕ) (d : Content) (i x : ℕ) → length ws ≡ size c → i < size c → CarefulAs kind c ws d i x → SoundAs kind texts c ws d → SoundAs kind texts c (slice_set ws i x) d
 as_sound kind.List texts c ws d i x long low care old = item_careful_sound (slots c) (size c) ws (list_of d) i x long low care old
@@ -46,11 +53,11 @@ as_clear kind.Set texts c ws d e clear old = clear_sound (walk_of kind.Set texts
 as_clear (kind.Deque bound) texts c ws d e clear old = tt
 
 -- the version of a row is put over by one more
-pub as_version : (kind : Kind) (c : ℕ) (ws : List ℕ) (d : Content) (i x : ℕ) → CarefulAs kind c ws d i x → (p : ℕ) → p < rows kind c → i ≡ version_at kind c p → x ≡ slice_index ws (version_at kind c p) + 1
-as_version kind.List c ws d i x care p low e = let v = care.version p low e in omega (arith, v)
-as_version kind.Dict c ws d i x care p low e = let v = care.version p low e in omega (arith, v)
-as_version kind.Set c ws d i x care p low e = let v = care.version p low e in omega (arith, v)
-as_version (kind.Deque bound) c ws d i x care p low e = absurd (omega (arith, low))
+pub as_version : (kind : Kind) (c : ℕ) (ws : List ℕ) (i x : ℕ) → CarefulWordsAs kind c ws i x → (p : ℕ) → p < rows kind c → i ≡ version_at kind c p → x ≡ slice_index ws (version_at kind c p) + 1
+as_version kind.List c ws i x care p low e = let v = care.version p low e in omega (arith, v)
+as_version kind.Dict c ws i x care p low e = let v = care.version p low e in omega (arith, v)
+as_version kind.Set c ws i x care p low e = let v = care.version p low e in omega (arith, v)
+as_version (kind.Deque bound) c ws i x care p low e = absurd (omega (arith, low))
 
 -- items lie in the table too
 pub items_fit : (c : ℕ) → IsClass c → 4 * slots c ≤ size c
@@ -58,7 +65,7 @@ unfolding slots places
 items_fit c is = let r = slots_range c is in let l = r.0 in omega (arith, l)
 
 -- a set's table has fewer entries than a dict's
-sets_fit : (c : ℕ) → set_entries c ≤ places c
+pub sets_fit : (c : ℕ) → set_entries c ≤ places c
 unfolding places
 sets_fit c = omega arith
 

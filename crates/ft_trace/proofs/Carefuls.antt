@@ -69,6 +69,48 @@ met_later n m ws zs walk x later ne met = record {
   before = λ j less none. met.before j less (sym (later.index (slice_index walk j) (met.inside j (omega arith)) (met.before j less)) ∙ none);
 }
 
+-- what is asked of a put but for what the content has
+pub record CarefulWords (n m : ℕ) (ws : List ℕ) (i x : ℕ) : Type 0 where
+  pub index : (s : ℕ) → s < n → i ≡ s → index_field ws s ≡ 0
+  pub names : (s : ℕ) → s < n → i ≡ s → (p : ℕ) → p < m → x ≡ suc p → entry_field n ws p 2 ≢ 0
+  pub odd : (p w : ℕ) → p < m → 0 < w → w < 8 → i ≡ entry_offset n p w → entry_field n ws p 0 % 2 ≡ 1
+  pub key : (p w : ℕ) → p < m → (w ≡ 1) ⊎ (w ≡ 3) → i ≡ entry_offset n p w → entry_field n ws p 2 ≡ 0
+  pub kind : (p : ℕ) → p < m → i ≡ entry_offset n p 2 → x ≢ 0
+  pub dies : (p : ℕ) → p < m → i ≡ entry_offset n p 2 → entry_field n ws p 2 ≢ 0 → (entry_field n ws p 2 < 3) × (x ≡ entry_field n ws p 2 + 2)
+  pub version : (p : ℕ) → p < m → i ≡ entry_offset n p 0 → x ≡ suc (entry_field n ws p 0)
+  pub opens : (p : ℕ) → p < m → i ≡ entry_offset n p 0 → x % 2 ≡ 1 → entry_field n ws p 2 < 3
+
+pub careful_words : (n m : ℕ) (ws : List ℕ) (c : Pairs) (i x : ℕ) → Careful n m ws c i x → CarefulWords n m ws i x
+careful_words n m ws c i x care = record { index = care.index; names = care.names; odd = care.odd; key = care.key; kind = care.kind; dies = care.dies; version = care.version; opens = care.opens }
+
+module _ (n m long_is : ℕ) (ws : List ℕ) (i x : ℕ) (long : length ws ≡ long_is) (low_i : i < long_is) (care : CarefulWords n m ws i x) where
+  put_else : (j : ℕ) → j ≢ i → slice_index (slice_set ws i x) j ≡ slice_index ws j
+  put_else j ne = get_or-set_other ws i j x 0 ne
+
+  put_here : (j : ℕ) → i ≡ j → slice_index (slice_set ws i x) j ≡ x
+  put_here j e = ap (λ (z : ℕ). slice_index (slice_set ws i x) z) (sym e) ∙ get_or-set_same ws i x 0 (omega arith)
+
+  put_kept : (p w : ℕ) → p < m → 0 < w → w < 8 → entry_field n ws p 0 % 2 ≡ 0 → entry_field n (slice_set ws i x) p w ≡ entry_field n ws p w
+  put_kept p w low some_w small even = put_else (entry_offset n p w) (λ e. let o = care.odd p w low some_w small (sym e) in absurd (omega (arith, o, even)))
+
+  put_kind : (p : ℕ) → p < m → entry_field n ws p 2 ≢ 0 → (entry_field n (slice_set ws i x) p 2 ≡ entry_field n ws p 2) ⊎ ((entry_field n ws p 2 < 3) × (entry_field n (slice_set ws i x) p 2 ≡ entry_field n ws p 2 + 2))
+  put_kind p low u =
+      dite (ℕ_discrete i (entry_offset n p 2))
+      (λ (e : i ≡ entry_offset n p 2). let d = care.dies p low e u in inr (d.0, put_here (entry_offset n p 2) e ∙ d.1))
+      (λ ne. inl (put_else (entry_offset n p 2) (λ e. ne (sym e))))
+
+  -- what stays of the table
+  pub put_later : Later n m ws (slice_set ws i x)
+  put_later = record {
+    index = λ s low used. put_else s (λ e. used (care.index s low (sym e)));
+    kind = λ p low u. put_kind p low u;
+    hash = λ p low u. put_else (entry_offset n p 1) (λ e. u (care.key p 1 low (inl refl) (sym e)));
+    key = λ p low u. put_else (entry_offset n p 3) (λ e. u (care.key p 3 low (inr refl) (sym e)));
+    version = λ p low. dite (ℕ_discrete i (entry_offset n p 0)) (λ e. let v = care.version p low e in let h = put_here (entry_offset n p 0) e in omega (arith, v, h)) (λ ne. let h = put_else (entry_offset n p 0) (λ e. ne (sym e)) in omega (arith, h));
+    same = λ p w low some_w small even e. put_kept p w low some_w small even;
+    gone = λ p low e even. put_else (entry_offset n p 0) (λ y. let v = care.version p low (sym y) in let o = care.opens p low (sym y) (omega (arith, v, even)) in absurd (omega (arith, o, e)));
+  }
+
 module _ (n m long_is : ℕ) (ws : List ℕ) (c : Pairs) (i x : ℕ) (long : length ws ≡ long_is) (low_i : i < long_is) (care : Careful n m ws c i x) where
   abbrev zs : List ℕ
   zs = slice_set ws i x
@@ -89,16 +131,8 @@ module _ (n m long_is : ℕ) (ws : List ℕ) (c : Pairs) (i x : ℕ) (long : len
       (λ (e : i ≡ entry_offset n p 2). let d = care.dies p low e u in inr (d.0, here (entry_offset n p 2) e ∙ d.1))
       (λ ne. inl (else (entry_offset n p 2) (λ e. ne (sym e))))
 
-  pub careful_later : Later n m ws zs
-  careful_later = record {
-    index = λ s low used. else s (λ e. used (care.index s low (sym e)));
-    kind = λ p low u. careful_kind p low u;
-    hash = λ p low u. else (entry_offset n p 1) (λ e. u (care.key p 1 low (inl refl) (sym e)));
-    key = λ p low u. else (entry_offset n p 3) (λ e. u (care.key p 3 low (inr refl) (sym e)));
-    version = λ p low. dite (ℕ_discrete i (entry_offset n p 0)) (λ e. let v = care.version p low e in let h = here (entry_offset n p 0) e in omega (arith, v, h)) (λ ne. let h = else (entry_offset n p 0) (λ e. ne (sym e)) in omega (arith, h));
-    same = λ p w low some_w small even e. kept p w low some_w small even;
-    gone = λ p low e even. else (entry_offset n p 0) (λ y. let v = care.version p low (sym y) in let o = care.opens p low (sym y) (omega (arith, v, even)) in absurd (omega (arith, o, e)));
-  }
+  careful_later : Later n m ws zs
+  careful_later = put_later n m long_is ws i x long low_i (careful_words n m ws c i x care)
 
   -- all that an entry says stays
   says_same : (p : ℕ) → ((w : ℕ) → 1 < w → w < 7 → entry_field n zs p w ≡ entry_field n ws p w) → said_of n zs p ≡ said_of n ws p

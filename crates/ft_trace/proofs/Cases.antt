@@ -4,7 +4,7 @@ use mathlib.Core.Logic.{dite}
 use native.Mathlib.Decide.{ℕ_discrete}
 use Rattle.ft_model.specs.declared.call.Call.{Call}
 use Rattle.ft_trace.specs.declared.Act.{Act}
-use Rattle.ft_trace.specs.declared.Act.TheVariants.{Lock, Unlock, StartWrite, PutBlock, PutRoot, PutTable, PutFresh, PutHeader, ReadHeader, StopWrite, Version, ReadBlock, ReadRoot, ReadTable, LowerCount, RaiseCount, ReadCount, ReadFree, TakeTable, GiveTable, Announce, ReadAnnounced, TookOver}
+use Rattle.ft_trace.specs.declared.Act.TheVariants.{Lock, Unlock, StartWrite, PutBlock, PutRoot, PutTable, PutFresh, PutHeader, ReadHeader, StopWrite, Version, ReadBlock, ReadRoot, ReadTable, LowerCount, RaiseCount, ReadCount, ReadFree, TakeTable, GiveTable, Announce, ReadAnnounced, TookOver, ReadFreePlaces, TakePlace, PutBox, PublishBox, ReadBox, RaiseLocal, DropLocal, ClearLocal, MergeCounts, RaiseShared, RaiseKept, DropShared, GivePlace}
 use Rattle.ft_trace.specs.declared.Shape.{Shape}
 use Rattle.ft_trace.specs.declared.View.{View}
 use Rattle.ft_trace.specs.Addresses.{Inside}
@@ -56,4 +56,17 @@ inside k m cs v (GiveTable t) may = fw_low k t may.0
 inside k m cs v (Announce p x) may = (may.3, may.4)
 inside k m cs v (ReadAnnounced p f) may = (may.1, may.2)
 inside k m cs v (TookOver tables had found told) may = absurd may
+inside k m cs v (ReadFreePlaces q w f) may = may
+inside k m cs v (TakePlace b f) may = (may.0.0, may.0.2)
+inside k m cs v (PutBox b i x) may = (may.0, may.1)
+inside k m cs v (PublishBox b) may = (may.0, omega arith)
+inside k m cs v (ReadBox b i f) may = may
+inside k m cs v (RaiseLocal b x) may = (may.0, omega arith)
+inside k m cs v (DropLocal b x) may = (may.0, omega arith)
+inside k m cs v (ClearLocal b) may = (may.0, omega arith)
+inside k m cs v (MergeCounts b d f) may = (may.0, omega arith)
+inside k m cs v (RaiseShared b old f) may = (may.0, omega arith)
+inside k m cs v (RaiseKept b f) may = (may.0, omega arith)
+inside k m cs v (DropShared b f) may = (may.0, omega arith)
+inside k m cs v (GivePlace b) may = (may.0.0, may.0.2)
 inside k m cs v act may = tt

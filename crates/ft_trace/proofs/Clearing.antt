@@ -22,7 +22,10 @@ use Rattle.ft_trace.specs.ContainerStates.{ContainerState, kind_in}
 use Rattle.ft_trace.specs.Pictures.{root_of, inner, ContainerWords, root_in, picture, Represents}
 use Rattle.ft_trace.specs.Kinds.{rows, version_at}
 use Rattle.ft_trace.specs.OddVersions.{Shut}
-use Rattle.ft_trace.specs.Holds.{held_words, known_state}
+use Rattle.ft_trace.specs.Holds.{held_words, held_unboxed, known_state}
+use Rattle.ft_trace.specs.Boxes.{known_box_word, references_held}
+use Rattle.ft_trace.specs.Unboxed.{unboxed}
+use Rattle.ft_trace.proofs.PlainPuts.{FewReferences, few_at_first, zero_refs}
 use Rattle.ft_trace.specs.Traces.{did, run, word, history, snap, May, Valid, IsReachable, Sure, IsAwake}
 use Rattle.ft_trace.proofs.Sizes.{set_at}
 use Rattle.ft_trace.proofs.Cases.{hit}
@@ -37,7 +40,7 @@ use Rattle.std.specs.Prelude.{option_map, Some}
 use Rattle.ft_model.specs.Worlds.{kind_of, no_hands, IsDeclared}
 use Rattle.ft_trace.proofs.NextActions.{next_possible}
 use Rattle.ft_trace.proofs.Naming.{one_locked}
-use Rattle.ft_trace.proofs.Contents.{empty_stands}
+use Rattle.ft_trace.proofs.Standing.{empty_stands}
 
 -- one more action with a snapshot
 pub snap_possible : (v : View) → IsAwake v → IsReachable v → (act : ℕ → Snap → Act) (x : Word) → ((n : ℕ) (s : Snap) → place (act n s) ≡ x) → ((n : ℕ) (s : Snap) → Reports (act n s) n) → Sure v (λ es. May v.shape (run v.shape es) (history es) v (act (word v.shape es x) (snap (run v.shape es) (history es)))) → (n : ℕ) × (s : Snap) × IsReachable (view_after (act n s) v)
@@ -70,7 +73,7 @@ held_shut v o q low p mine quiet names =
     subst (Shut (version_at (kind_in v.shape.starts o) (class_of q)) (rows (kind_in v.shape.starts o) (class_of q))) (sym w.0) (holder_shut v.shape p.0 p.2.0 o low p.1 v p.2.1 mine quiet q w.1)
 
 -- start, root 0, length 0, commit, stop, unlock
-module _ (v : View) (o : ℕ) (values : List Value) (live : IsAwake v) (possible : IsReachable v) (small : v.shape.passes * v.shape.calls < 2 ^ 46) (low : o < container_count v.shape) (mine : has_lock o v.log ≡ true) (quiet : (p : ℕ) → is_writing p v.log ≡ false) (spare : used v.log ≡ false) (none : owes v.log ≡ 0) (room : 0 < v.left) (is_list : (known_state o v).content ≡ content.List values) where
+module _ (v : View) (o : ℕ) (values : List Value) (live : IsAwake v) (possible : IsReachable v) (small : v.shape.passes * v.shape.calls < 2 ^ 46) (low : o < container_count v.shape) (mine : has_lock o v.log ≡ true) (quiet : (p : ℕ) → is_writing p v.log ≡ false) (spare : used v.log ≡ false) (none : owes v.log ≡ 0) (room : 0 < v.left) (few_references : (b : ℕ) → references_held v.shape b v.log < 2 ^ 31) (is_list : (known_state o v).content ≡ content.List values) where
   abbrev k : Shape
   k = v.shape
 
@@ -106,7 +109,7 @@ module _ (v : View) (o : ℕ) (values : List Value) (live : IsAwake v) (possible
 
   -- the block that is known at first is that of a list
   head : IsBlock (held_words o v).block (known_state o v).table.class (length values) 0 0
-  head = subst (λ (z : Content). StandsAs k.texts (held_words o v).block (0 ∷ 0 ∷ (held_words o v).table) (known_state o v).table z → IsBlock (held_words o v).block (known_state o v).table.class (length values) 0 0) (sym is_list) (λ s. s.0.head) (held_stands v o low possible mine (quiet o))
+  head = subst (λ (z : Content). StandsAs k.texts (held_words o v).block (0 ∷ 0 ∷ (held_unboxed o v).table) (known_state o v).table z → IsBlock (held_words o v).block (known_state o v).table.class (length values) 0 0) (sym is_list) (λ s. s.0.head) (held_stands v o low possible mine (quiet o))
 
   abbrev ws : List ℕ
   ws = mem k v.log
@@ -116,6 +119,9 @@ module _ (v : View) (o : ℕ) (values : List Value) (live : IsAwake v) (possible
 
   long : length ws ≡ extent k
   long = (imaged k possible.0 possible.2.0 possible.1 v possible.2.1).wide (inl (o, mine))
+
+  few_first : FewReferences k o v.log
+  few_first = few_at_first k possible.0 possible.2.0 possible.1 v possible.2.1 o low mine few_references
 
   in_block : (i : ℕ) → i < 6 → Inside k (block o i)
   in_block i less = (low, less)
@@ -147,6 +153,10 @@ module _ (v : View) (o : ℕ) (values : List Value) (live : IsAwake v) (possible
       let b = block_zero k o ys zeros in
       let r : root_of k o ys ≡ 0 = zeros 0 (omega arith) in
       λ d. record { block = b d; table = inner k (r d) ys }
+
+  -- and so it reads
+  shown_read : unboxed (λ b i. known_box_word k b i v.log) (kind_in k.starts o) (picture k o ys) ≡ record { block = replicate 6 0; table = [] }
+  shown_read = ap (unboxed (λ b i. known_box_word k b i v.log) (kind_in k.starts o)) shown
 
   root_now : root_in (picture k o ys) ≡ 0
   root_now = ap root_in shown
@@ -180,6 +190,7 @@ module _ (v : View) (o : ℕ) (values : List Value) (live : IsAwake v) (possible
         (λ _. spare),
         (λ t' (e : 0 ≡ suc t'). absurd (omega (arith, e))),
         (λ _. not_yet),
+        zero_refs k o old (c1 n).log low long few_first,
         (λ t' (e : 0 ≡ suc t'). absurd (omega (arith, e))),
       ))
 
@@ -216,7 +227,7 @@ module _ (v : View) (o : ℕ) (values : List Value) (live : IsAwake v) (possible
         low,
         odd,
         refl,
-        stop_sure (c4 n m s) o low mine (subst (λ (z : ContainerWords × ContainerState). Represents k.texts z.0 z.1) (λ d. (sym shown d, sym (after_clear n m s) d)) (empty_stands k.texts kind.List)) es id knows,
+        stop_sure (c4 n m s) o low mine (subst (λ (z : ContainerWords × ContainerState). Represents k.texts z.0 z.1) (λ d. (sym shown_read d, sym (after_clear n m s) d)) (empty_stands k.texts kind.List)) es id knows,
         version_up (c4 n m s) refl es id knows,
         (λ t names. absurd (omega (arith, names, root, root_now))),
       ))

@@ -13,7 +13,8 @@ use Rattle.ft_trace.specs.Bits.{bit}
 use Rattle.ft_trace.specs.Addresses.{tables_in, count_of_class, bits, class_of, number_of, free_word_of, free_bit_of, IsTableName}
 use Rattle.ft_trace.specs.Acts.{place, stage, flight, flight_next, view_after, maker, made, both, spent, sender, note}
 use Rattle.ft_trace.specs.Entries.{total}
-use Rattle.ft_trace.specs.Counts.{sum_to, taking, giving}
+use Rattle.ft_trace.specs.Sums.{sum_to}
+use Rattle.ft_trace.specs.Counts.{taking, giving}
 use Rattle.ft_trace.specs.Traces.{Event, did, forked, joined, sent, run, word, history, May, Valid}
 use Rattle.ft_model.specs.Classes.{IsClass}
 use Rattle.ft_trace.proofs.Announcing.{fits}

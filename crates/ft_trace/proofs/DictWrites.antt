@@ -38,14 +38,16 @@ use Rattle.ft_trace.specs.Pictures.{root_in, index_field, entry_offset, entry_fi
 use Rattle.ft_trace.specs.Carefuls.{said_of, HasLiveKey, Reached, Clear, OpensChanged}
 use Rattle.ft_trace.specs.Kinds.{under, version_at, IsKeyed}
 use Rattle.ft_trace.specs.OddVersions.{Shut}
-use Rattle.ft_trace.specs.Holds.{held_words, known_state, AgreesWith}
+use Rattle.ft_trace.specs.Holds.{held_unboxed, known_state, AgreesWith}
 use Rattle.ft_trace.specs.Traces.{IsReachable}
 use Rattle.ft_trace.specs.Grants.{MayWrite}
-use Rattle.ft_trace.specs.WholeWrites.{to_table, MayPut, MayPuts, WholeWrite, at_commit, at_end, after_write_of}
-use Rattle.ft_trace.specs.EntryWrites.{value_puts, entry_closed, dict_set_write, ValuesMayBePut}
+use Rattle.ft_trace.specs.WholeWrites.{to_table, MayPut, MayPuts, WholeWrite, at_commit, at_end, after_write_of, to_value}
+use Rattle.ft_trace.proofs.Cases.{off}
+use Rattle.ft_trace.proofs.ValuePlaces.{plain_kind, entry_far}
+use Rattle.ft_trace.specs.EntryWrites.{value_puts, entry_closed, dict_set_write, ValuesMayBePut, MayStandIn}
 use Rattle.ft_trace.proofs.Known.{in_bank, table_is_long, after_header}
 use Rattle.ft_trace.proofs.Tellings.{live_tells, live_is_right, live_below, few_live, key_words, key_reached, key_named, words_clear}
-use Rattle.ft_trace.proofs.EntryPuts.{value_open, value_kind, value_payload, value_clear, value_late, value_shut, value_time}
+use Rattle.ft_trace.proofs.EntryPuts.{value_open, value_clear, value_late, value_shut, value_time, ver1}
 use Rattle.ft_trace.proofs.ListWrites.{may_begin}
 use Rattle.ft_trace.proofs.Naming.{one_locked}
 use Rattle.ft_model.proofs.SplitDicts.{unsplit_takes, unsplit_leaves}
@@ -162,8 +164,8 @@ module _ (v : View) (o : ℕ) (pairs : DictContent) (low : o < container_count v
 
 -- ---- d[k] = v, where the key is there
 
-module _ (versions : EntryVersionsChangeNothing) (follow : WordsFollowAValue) (lives : LiveEntriesArePairs) (serials : ValuesKeepSerials) (first : FirstEntriesArePairs) (v : View) (o t place : ℕ) (key : Key) (value : Value) (pairs : DictContent) (may : MayWrite v o) (is_dict : (known_state o v).content ≡ content.Dict pairs) (names : root_in (held_words o v) ≡ suc t)
-    (low : place < places (class_of t)) (live : HasLiveKey (slots (class_of t)) (held_words o v).table place key) (fits_key : FitsKey key) (fits : FitsStored (Plain value)) (differs : dict_get pairs.pairs key ≢ Some value) where
+module _ (versions : EntryVersionsChangeNothing) (follow : WordsFollowAValue) (lives : LiveEntriesArePairs) (serials : ValuesKeepSerials) (first : FirstEntriesArePairs) (v : View) (o t place : ℕ) (key : Key) (box : Option ℕ) (value : Value) (pairs : DictContent) (may : MayWrite v o) (is_dict : (known_state o v).content ≡ content.Dict pairs) (names : root_in (held_unboxed o v) ≡ suc t)
+    (low : place < places (class_of t)) (live : HasLiveKey (slots (class_of t)) (held_unboxed o v).table place key) (fits_key : FitsKey key) (fits : FitsStored (Plain value)) (differs : dict_get pairs.pairs key ≢ Some value) (stands : MayStandIn v box value) where
   abbrev k : Shape
   k = v.shape
 
@@ -177,10 +179,10 @@ module _ (versions : EntryVersionsChangeNothing) (follow : WordsFollowAValue) (l
   m = places c
 
   abbrev ws : List ℕ
-  ws = (held_words o v).table
+  ws = (held_unboxed o v).table
 
   abbrev b : List ℕ
-  b = (held_words o v).block
+  b = (held_unboxed o v).block
 
   abbrev fill : ℕ
   fill = (known_state o v).table.fill
@@ -192,7 +194,7 @@ module _ (versions : EntryVersionsChangeNothing) (follow : WordsFollowAValue) (l
   called = call.Dict o (dict.Set key value)
 
   abbrev write : WholeWrite
-  write = dict_set_write v o t place key value
+  write = dict_set_write v o t place key box value
 
   class_is : IsClass c
   class_is = (in_bank v o t may.low may.possible may.mine names).0
@@ -260,16 +262,16 @@ module _ (versions : EntryVersionsChangeNothing) (follow : WordsFollowAValue) (l
   inside : (w : ℕ) → w < 8 → entry_offset n place w < size c
   inside w few = omega (arith, few, low)
 
-  early : MayPuts kind.Dict t (content.Dict pairs) false (held_words o v) (value_puts n ws place value)
+  early : MayPuts kind.Dict t (content.Dict pairs) false (held_unboxed o v) (value_puts n ws place box value)
   early =
       let kind_word = stored_kind (Plain value) in
       let payload = stored_payload (Plain value) in
       let time = value_time n m ws (under (content.Dict pairs)) (under (content.Dict news)) place key kind_word payload low long even live (version_at kind.Dict c) (λ q. refl) in
-      let second : List ℕ = slice_set opened (entry_offset n place 4) kind_word in
-      let p3 : MayPut kind.Dict t (content.Dict pairs) false (record { block = b; table = second }) (to_table (entry_offset n place 5) payload) = (names, inside 5 (omega arith), value_payload n m ws (under (content.Dict pairs)) (under (content.Dict news)) place key kind_word payload low long even live, time 5 payload (omega arith) (λ e. absurd (omega (arith, e)))) in
-      let p2 : MayPut kind.Dict t (content.Dict pairs) false (record { block = b; table = opened }) (to_table (entry_offset n place 4) kind_word) = (names, inside 4 (omega arith), value_kind n m ws (under (content.Dict pairs)) (under (content.Dict news)) place key kind_word payload low long even live, time 4 kind_word (omega arith) (λ e. absurd (omega (arith, e)))) in
-      let p1 : MayPut kind.Dict t (content.Dict pairs) false (held_words o v) (to_table (entry_offset n place 0) (ver + 1)) = (names, inside 0 (omega arith), value_open n m ws (under (content.Dict pairs)) (under (content.Dict news)) place key kind_word payload low long even live, time 0 (ver + 1) (omega arith) (λ _. let e = even in omega (arith, e))) in
-      (p1, (p2, (p3, tt)))
+      let first_ = ver1 n m ws (under (content.Dict pairs)) (under (content.Dict news)) place key kind_word payload low long even live in
+      let odd1 : entry_field n opened place 0 % 2 ≡ 1 = let e = even in omega (arith, first_, e) in
+      let p2 : MayPut kind.Dict t (content.Dict pairs) false (record { block = b; table = opened }) (to_value box (entry_offset n place 4) (entry_offset n place 5) kind_word payload) = (names, (place, low, refl, omega arith, odd1), plain_kind value, λ e. off e) in
+      let p1 : MayPut kind.Dict t (content.Dict pairs) false (held_unboxed o v) (to_table (entry_offset n place 0) (ver + 1)) = (names, inside 0 (omega arith), value_open n m ws (under (content.Dict pairs)) (under (content.Dict news)) place key kind_word payload low long even live, time 0 (ver + 1) (omega arith) (λ _. let e = even in omega (arith, e)), entry_far c place 0 (omega arith) (λ z. omega (arith, z)) (λ z. omega (arith, z))) in
+      (p1, (p2, tt))
 
   -- the words of the entry are of another value
   other : entry_field n ws place 4 ≡ stored_kind (Plain value) → entry_field n ws place 5 ≡ stored_payload (Plain value) → ⊥
@@ -293,7 +295,7 @@ module _ (versions : EntryVersionsChangeNothing) (follow : WordsFollowAValue) (l
       (λ q a less l. dict_right first k.texts b c fill class_is pairs ws says q a less l)
       (λ q a less l. dict_right first k.texts b c fill class_is news put put_says q a less l)
       (λ a some. dict_live first k.texts b c fill class_is news put put_says a some) in
-      ((names, inside 0 (omega arith), careful, record { before = λ q less at one. absurd (omega (arith, one, e)); later = λ q less at two. refl }), tt)
+      ((names, inside 0 (omega arith), careful, record { before = λ q less at one. absurd (omega (arith, one, e)); later = λ q less at two. refl }, entry_far c place 0 (omega arith) (λ z. omega (arith, z)) (λ z. omega (arith, z))), tt)
 
   -- ---- in each history that agrees with what the pass knows
 
@@ -343,6 +345,7 @@ module _ (versions : EntryVersionsChangeNothing) (follow : WordsFollowAValue) (l
         called = record { of = refl; wrote = refl; fits = (fits_key, fits); locks = one_locked o v.log may.mine; replied = λ r e. inr e; declared = λ world one. record { one = one; both = tt; room = tt } };
         root = tt;
         early = early;
+        boxes = (stands, tt);
         names = names;
         clear = clear;
         late = late;
@@ -358,4 +361,4 @@ module _ (versions : EntryVersionsChangeNothing) (follow : WordsFollowAValue) (l
       })
 
 pub values_may_be_put : EntryVersionsChangeNothing → WordsFollowAValue → LiveEntriesArePairs → ValuesKeepSerials → FirstEntriesArePairs → ValuesMayBePut
-values_may_be_put versions follow lives serials first v o t place key value pairs may is_dict names low live fits_key fits differs = value_possible versions follow lives serials first v o t place key value pairs may is_dict names low live fits_key fits differs
+values_may_be_put versions follow lives serials first v o t place key box value pairs may is_dict names low live fits_key fits differs stands = value_possible versions follow lives serials first v o t place key box value pairs may is_dict names low live fits_key fits differs stands

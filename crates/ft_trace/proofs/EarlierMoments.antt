@@ -1,5 +1,5 @@
 -- What a pass's log says of earlier moments of the trace.
-use Rattle.std.proofs.Common.{◌≡◌, ◌≢◌, ℕ, suc, eqb, Bool, true, cond, List, [], ◌∷◌, ◌++◌, length, set, refl, sym, ap, ◌∙◌, subst}
+use Rattle.std.proofs.Common.{◌≡◌, ◌≢◌, ℕ, suc, eqb, Bool, true, cond, List, [], ◌∷◌, ◌++◌, length, set, refl, sym, ap, ◌∙◌, subst, append_assoc}
 use mathlib.Core.Option.{some}
 use mathlib.Core.Logic.{dite}
 use native.Mathlib.Decide.{ℕ_discrete}
@@ -47,6 +47,10 @@ abbrev pub IsStep : Act → Type 0
 IsStep (TookOver tables had found told) = ⊥
 IsStep act = Unit {0}
 
+-- each event leaves f, before which the pass at seat j had done some of these since its log was rest
+abbrev pub Leaves : Shape → (List Event → ℕ) → ℕ → List Act → List Act → Type 0
+Leaves k f j newer rest = (e : Event) (now : List Event) → Valid k (e ∷ now) → (u : View) → get_elem? (run k now).views j ≡ some u → (zs ys : List Act) → zs ++ ys ≡ newer → u.log ≡ ys ++ rest → f (e ∷ now) ≡ f now
+
 -- The pass at seat j did a when its log was rest, or took tables over at a join. The trace at that moment is `older`.
 pub record Was (k : Shape) (es : List Event) (j : ℕ) (xs : List Act) (a : Act) (rest : List Act) : Type 0 where
   pub newer : List Event
@@ -61,9 +65,11 @@ pub record Was (k : Shape) (es : List Event) (j : ℕ) (xs : List Act) (a : Act)
   pub may : IsStep a → May k (run k older) (history older) view a
   -- what it had found in roots by then, and when, is the same where it has announced nothing since
   pub seen : Online (xs ++ a ∷ []) → (t : ℕ) → reads t rest ≡ true → seen older j t ≡ seen es j t
+  -- what each event since then leaves, by what the pass had done before it, is as it was
+  pub kept : (f : List Event → ℕ) → Leaves k f j (xs ++ a ∷ []) rest → f es ≡ f older
 
-later : (k : Shape) (es : List Event) (e : Event) (j : ℕ) (xs : List Act) (a : Act) (rest : List Act) → ((t : ℕ) → seen es j t ≡ seen (e ∷ es) j t) → Was k es j xs a rest → Was k (e ∷ es) j xs a rest
-later k es e j xs a rest same w = record { newer = e ∷ w.newer; older = w.older; view = w.view; split = ap (λ (l : List Event). e ∷ l) w.split; valid = w.valid; at = w.at; log = w.log; tells = w.tells; live = w.live; may = w.may; seen = λ on t r. w.seen on t r ∙ same t }
+later : (k : Shape) (es : List Event) (e : Event) → Valid k (e ∷ es) → (j : ℕ) (u : View) → get_elem? (run k es).views j ≡ some u → (xs : List Act) (a : Act) (rest : List Act) → u.log ≡ xs ++ a ∷ rest → ((t : ℕ) → seen es j t ≡ seen (e ∷ es) j t) → Was k es j xs a rest → Was k (e ∷ es) j xs a rest
+later k es e valid j u there xs a rest log same w = record { kept = λ f leaves. leaves e es valid u there [] (xs ++ a ∷ []) refl (log ∙ sym (append_assoc xs (a ∷ []) rest)) ∙ w.kept f leaves; newer = e ∷ w.newer; older = w.older; view = w.view; split = ap (λ (l : List Event). e ∷ l) w.split; valid = w.valid; at = w.at; log = w.log; tells = w.tells; live = w.live; may = w.may; seen = λ on t r. w.seen on t r ∙ same t }
 
 -- the pass's own next action
 seen_own : (id : ℕ) (v : View) (a : Act) (es : List Event) (t : ℕ) → reads t v.log ≡ true → seen es id t ≡ seen (did id v a ∷ es) id t
@@ -73,8 +79,11 @@ seen_own id v (ReadRoot o f) es t r =
     sym (hit id (cond (eqb f (suc t)) (cond (reads t v.log) s g) s) s ∙ dite (ℕ_discrete f (suc t)) (λ (z : f ≡ suc t). here f (suc t) (cond (reads t v.log) s g) s z ∙ ap (λ (b : Bool). cond b s g) r) (λ ne. miss f (suc t) (cond (reads t v.log) s g) s ne))
 seen_own id v act es t r = sym (hit id (seen es id t) (seen es id t))
 
-own_next : (k : Shape) (es : List Event) (id : ℕ) (v : View) (b x : Act) (xs : List Act) (a : Act) (rest : List Act) → b ≡ x → v.log ≡ xs ++ a ∷ rest → Was k es id xs a rest → Was k (did id v b ∷ es) id (x ∷ xs) a rest
-own_next k es id v b x xs a rest same log w = record {
+own_next : (k : Shape) (es : List Event) (id : ℕ) (v : View) (b x : Act) → Valid k (did id v b ∷ es) → (xs : List Act) (a : Act) (rest : List Act) → b ≡ x → v.log ≡ xs ++ a ∷ rest → Was k es id xs a rest → Was k (did id v b ∷ es) id (x ∷ xs) a rest
+own_next k es id v b x valid xs a rest same log w = record {
+  kept = λ f leaves.
+      leaves (did id v b) es valid v valid.1.0 (x ∷ []) (xs ++ a ∷ []) refl (log ∙ sym (append_assoc xs (a ∷ []) rest))
+      ∙ w.kept f (λ e now ok u there zs ys split is. leaves e now ok u there (x ∷ zs) ys (ap (λ (l : List Act). x ∷ l) split) is);
   newer = did id v b ∷ w.newer;
   older = w.older;
   view = w.view;
@@ -102,18 +111,22 @@ by_front : (k : Shape) (es : List Event) (id : ℕ) (v : View) (b : Act) → Val
 by_front k es id v b valid before [] a rest e =
     let same : b ≡ a = cc in
     let log : v.log ≡ rest = cc in
-    subst (λ (z : Act). Was k (did id v b ∷ es) id [] z rest) same (record { newer = did id v b ∷ []; older = es; view = v; split = refl; valid = valid.0; at = valid.1.0; log = log; tells = valid.1.2; live = valid.1.1; may = λ _. valid.1.3; seen = λ on t r. seen_own id v b es t (ap (reads t) log ∙ r) })
-by_front k es id v b valid before (x ∷ xs) a rest e = own_next k es id v b x xs a rest (cc) (cc) (before xs a rest (cc))
+    subst (λ (z : Act). Was k (did id v b ∷ es) id [] z rest) same (record { kept = λ f leaves. leaves (did id v b) es valid v valid.1.0 (b ∷ []) [] refl log; newer = did id v b ∷ []; older = es; view = v; split = refl; valid = valid.0; at = valid.1.0; log = log; tells = valid.1.2; live = valid.1.1; may = λ _. valid.1.3; seen = λ on t r. seen_own id v b es t (ap (reads t) log ∙ r) })
+by_front k es id v b valid before (x ∷ xs) a rest e = own_next k es id v b x valid xs a rest (cc) (cc) (before xs a rest (cc))
 
 -- what a join adds to the log
 by_join : (k : Shape) (es : List Event) (id : ℕ) (v : View) (other : ℕ) (w : View) → Valid k (joined id v other w ∷ es) → Each k es id v → Each k (joined id v other w ∷ es) id (both v w)
 by_join k es id v other w valid before [] a rest e =
     let same : TookOver (hands_over w.log) (had_locks w.number w.log) (found_owners w.log) (tells w) ≡ a = cc in
     let log : v.log ≡ rest = cc in
-    subst (λ (z : Act). Was k (joined id v other w ∷ es) id [] z rest) same (record { newer = joined id v other w ∷ []; older = es; view = v; split = refl; valid = valid.0; at = valid.1.0; log = log; tells = tt; live = valid.1.3; may = λ no. absurd no; seen = λ on t r. refl })
+    subst (λ (z : Act). Was k (joined id v other w ∷ es) id [] z rest) same (record { kept = λ f leaves. leaves (joined id v other w) es valid v valid.1.0 (TookOver (hands_over w.log) (had_locks w.number w.log) (found_owners w.log) (tells w) ∷ []) [] refl log; newer = joined id v other w ∷ []; older = es; view = v; split = refl; valid = valid.0; at = valid.1.0; log = log; tells = tt; live = valid.1.3; may = λ no. absurd no; seen = λ on t r. refl })
 by_join k es id v other w valid before (x ∷ xs) a rest e =
-    let was = before xs a rest (cc) in
+    let log : v.log ≡ xs ++ a ∷ rest = cc in
+    let was = before xs a rest log in
     record {
+      kept = λ f leaves.
+          leaves (joined id v other w) es valid v valid.1.0 (x ∷ []) (xs ++ a ∷ []) refl (log ∙ sym (append_assoc xs (a ∷ []) rest))
+          ∙ was.kept f (λ e now ok u there zs ys split is. leaves e now ok u there (x ∷ zs) ys (ap (λ (l : List Act). x ∷ l) split) is);
       newer = joined id v other w ∷ was.newer;
       older = was.older;
       view = was.view;
@@ -134,19 +147,19 @@ was k (did id v b ∷ es) valid =
     let old = was k es valid.0 in
     set_views (Each k (did id v b ∷ es)) _ id (view_after b v)
     (by_front k es id v b valid (old id v valid.1.0))
-    (λ j u ne e xs a rest is. later k es (did id v b) j xs a rest (λ t. sym (miss id j (seen_next b (reads t v.log) t (age es t) (seen es j t)) (seen es j t) (λ z. ne (sym z)))) (old j u e xs a rest is))
+    (λ j u ne e xs a rest is. later k es (did id v b) valid j u e xs a rest is (λ t. sym (miss id j (seen_next b (reads t v.log) t (age es t) (seen es j t)) (seen es j t) (λ z. ne (sym z)))) (old j u e xs a rest is))
 was k (forked id v ∷ es) valid =
     let old = was k es valid.0 in
     one_more (Each k (forked id v ∷ es)) _ (made v) (no_log k (forked id v ∷ es) (length (set (run k es).views id (maker v))))
-    (set_views (Each k (forked id v ∷ es)) _ id (maker v) (λ xs a rest is. later k es (forked id v) id xs a rest (λ t. refl) (old id v valid.1.0 xs a rest is)) (λ j u _ e xs a rest is. later k es (forked id v) j xs a rest (λ t. refl) (old j u e xs a rest is)))
+    (set_views (Each k (forked id v ∷ es)) _ id (maker v) (λ xs a rest is. later k es (forked id v) valid id v valid.1.0 xs a rest is (λ t. refl) (old id v valid.1.0 xs a rest is)) (λ j u _ e xs a rest is. later k es (forked id v) valid j u e xs a rest is (λ t. refl) (old j u e xs a rest is)))
 was k (sent id v given ∷ es) valid =
     let old = was k es valid.0 in
     one_more (Each k (sent id v given ∷ es)) _ (note given v) (no_log k (sent id v given ∷ es) (length (set (run k es).views id (sender given v))))
-    (set_views (Each k (sent id v given ∷ es)) _ id (sender given v) (λ xs a rest is. later k es (sent id v given) id xs a rest (λ t. refl) (old id v valid.1.0 xs a rest is)) (λ j u _ e xs a rest is. later k es (sent id v given) j xs a rest (λ t. refl) (old j u e xs a rest is)))
+    (set_views (Each k (sent id v given ∷ es)) _ id (sender given v) (λ xs a rest is. later k es (sent id v given) valid id v valid.1.0 xs a rest is (λ t. refl) (old id v valid.1.0 xs a rest is)) (λ j u _ e xs a rest is. later k es (sent id v given) valid j u e xs a rest is (λ t. refl) (old j u e xs a rest is)))
 was k (joined id v other w ∷ es) valid =
     let old = was k es valid.0 in
     set_views (Each k (joined id v other w ∷ es)) _ other spent (no_log k (joined id v other w ∷ es) other)
-    (λ j u _. set_views (Each k (joined id v other w ∷ es)) _ id (both v w) (by_join k es id v other w valid (old id v valid.1.0)) (λ j u _ e xs a rest is. later k es (joined id v other w) j xs a rest (λ t. refl) (old j u e xs a rest is)) j u)
+    (λ j u _. set_views (Each k (joined id v other w ∷ es)) _ id (both v w) (by_join k es id v other w valid (old id v valid.1.0)) (λ j u _ e xs a rest is. later k es (joined id v other w) valid j u e xs a rest is (λ t. refl) (old j u e xs a rest is)) j u)
 
 -- the rest of a valid trace is valid
 pub valid_rest : (k : Shape) (newer older : List Event) → Valid k (newer ++ older) → Valid k older

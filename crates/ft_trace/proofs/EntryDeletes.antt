@@ -19,7 +19,7 @@ use Rattle.ft_trace.specs.Pictures.{root_in, entry_offset, entry_field, walk_of}
 use Rattle.ft_trace.specs.Carefuls.{HasLiveKey, Clear, OpensChanged}
 use Rattle.ft_trace.specs.Kinds.{under, rows, IsKeyed}
 use Rattle.ft_trace.specs.OddVersions.{Shut}
-use Rattle.ft_trace.specs.Holds.{held_words, known_state, AgreesWith}
+use Rattle.ft_trace.specs.Holds.{held_unboxed, known_state, AgreesWith}
 use Rattle.ft_trace.specs.Traces.{IsReachable}
 use Rattle.ft_trace.specs.Grants.{MayWrite}
 use Rattle.ft_trace.specs.WholeWrites.{to_block, MayPut, MayPuts, WholeWrite, at_commit, at_end, after_write_of}
@@ -35,8 +35,8 @@ use Rattle.ft_trace.proofs.DictWrites.{EntryVersionsChangeNothing, version_stand
 use Rattle.ft_trace.proofs.WriteFacts.{CallFacts, facts_suffice}
 
 -- `count` is how many there are afterwards
-module _ (versions : EntryVersionsChangeNothing) (v : View) (o t p count : ℕ) (key : Key) (x news : Content) (keyed : IsKeyed (kind_of x)) (still : IsKeyed (kind_of news)) (called : Call) (may : MayWrite v o) (is : (known_state o v).content ≡ x) (names : root_in (held_words o v) ≡ suc t) (low : p < rows (kind_of x) (class_of t))
-    (live : HasLiveKey (slots (class_of t)) (held_words o v).table p key) where
+module _ (versions : EntryVersionsChangeNothing) (v : View) (o t p count : ℕ) (key : Key) (x news : Content) (keyed : IsKeyed (kind_of x)) (still : IsKeyed (kind_of news)) (called : Call) (may : MayWrite v o) (is : (known_state o v).content ≡ x) (names : root_in (held_unboxed o v) ≡ suc t) (low : p < rows (kind_of x) (class_of t))
+    (live : HasLiveKey (slots (class_of t)) (held_unboxed o v).table p key) where
   abbrev kind : Kind
   kind = kind_of x
 
@@ -53,7 +53,7 @@ module _ (versions : EntryVersionsChangeNothing) (v : View) (o t p count : ℕ) 
   fill = (known_state o v).table.fill
 
   abbrev ws : List ℕ
-  ws = (held_words o v).table
+  ws = (held_unboxed o v).table
 
   abbrev ver : ℕ
   ver = entry_field n ws p 0
@@ -80,14 +80,14 @@ module _ (versions : EntryVersionsChangeNothing) (v : View) (o t p count : ℕ) 
   even = shut p low
 
   names_now : slice_index block 0 ≡ suc t
-  names_now = get_or-set_other (held_words o v).block 1 0 count 0 (λ e. absurd (omega (arith, e))) ∙ names
+  names_now = get_or-set_other (held_unboxed o v).block 1 0 count 0 (λ e. absurd (omega (arith, e))) ∙ names
 
-  early : MayPuts kind t x false (held_words o v) (to_block 1 count ∷ delete_puts n ws p key)
+  early : MayPuts kind t x false (held_unboxed o v) (to_block 1 count ∷ delete_puts n ws p key)
   early =
       let e = even in
-      let q1 : MayPut kind t x false (held_words o v) (to_block 1 count) = (omega arith, omega arith) in
-      let q2 = keyed_put kind keyed t x false (record { block = block; table = ws }) p 0 (ver + 1) names_now low (omega arith) (dead_open n m ws p key low long even live (under x)) (record { before = λ q less at one. refl; later = λ q less at two. absurd (omega (arith, two, e)) }) in
-      let q3 = keyed_put kind keyed t x false (record { block = block; table = slice_set ws (entry_offset n p 0) (ver + 1) }) p 2 (gone_kind key) names_now low (omega arith) (dead_kind n m ws p key low long even live (under x)) (record { before = λ q less at one. refl; later = λ q less at two. absurd (omega (arith, at)) }) in
+      let q1 : MayPut kind t x false (held_unboxed o v) (to_block 1 count) = (omega arith, omega arith) in
+      let q2 = keyed_put kind keyed t x false (record { block = block; table = ws }) p 0 (ver + 1) names_now low (omega arith) (λ z. omega (arith, z)) (λ z. omega (arith, z)) (dead_open n m ws p key low long even live (under x)) (record { before = λ q less at one. refl; later = λ q less at two. absurd (omega (arith, two, e)) }) in
+      let q3 = keyed_put kind keyed t x false (record { block = block; table = slice_set ws (entry_offset n p 0) (ver + 1) }) p 2 (gone_kind key) names_now low (omega arith) (λ z. omega (arith, z)) (λ z. omega (arith, z)) (dead_kind n m ws p key low long even live (under x)) (record { before = λ q less at one. refl; later = λ q less at two. absurd (omega (arith, at)) }) in
       (q1, (q2, (q3, tt)))
 
   module _ (now : StandsAs v.shape.texts block (0 ∷ 0 ∷ put) (use_of t fill) news) (gone : (a : Key) → (key_kind a ≡ key_kind key) × (key_payload a ≡ key_payload key) → under news a ≡ [])
@@ -97,7 +97,7 @@ module _ (versions : EntryVersionsChangeNothing) (v : View) (o t p count : ℕ) 
     late : MayPuts kind t news true (at_commit v o write) (entry_closed n ws p)
     late =
         let e = even in
-        (keyed_put kind keyed t news true (at_commit v o write) p 0 (ver + 2) names_now low (omega arith) (dead_late n m ws p key low long even live (under news) (λ a dead. gone a (dead_is n m ws p key low long even live a dead))) (record { before = λ q less at one. absurd (omega (arith, one, e)); later = λ q less at two. refl }), tt)
+        (keyed_put kind keyed t news true (at_commit v o write) p 0 (ver + 2) names_now low (omega arith) (λ z. omega (arith, z)) (λ z. omega (arith, z)) (dead_late n m ws p key low long even live (under news) (λ a dead. gone a (dead_is n m ws p key low long even live a dead))) (record { before = λ q less at one. absurd (omega (arith, one, e)); later = λ q less at two. refl }), tt)
 
     pub delete_possible : (start number : ℕ) × (s : Snap) × (stop : ℕ) × IsReachable (after_write_of v o t write start number s stop)
     delete_possible =
@@ -106,6 +106,7 @@ module _ (versions : EntryVersionsChangeNothing) (v : View) (o t p count : ℕ) 
           called = facts;
           root = tt;
           early = early;
+          boxes = tt;
           names = names_now;
           clear = clear_keyed kind keyed v.shape.texts c put x news (clears (dead_same n m ws p key low long even live) (dead_opens n m ws p key low long even live (under x) (under news) shut there (gone key (refl, refl))));
           late = late;

@@ -16,12 +16,12 @@ use Rattle.ft_layout.proofs.WordLaws.{gone_is, kind_range}
 use Rattle.ft_trace.specs.declared.Snap.{Snap}
 use Rattle.ft_trace.specs.declared.View.{View}
 use Rattle.ft_trace.specs.Addresses.{class_of, slots, IsTableName}
-use Rattle.ft_trace.specs.Acts.{stage, mem}
-use Rattle.ft_trace.specs.Pictures.{index_field, entry_offset, entry_field, walk_of}
+use Rattle.ft_trace.specs.Acts.{stage}
+use Rattle.ft_trace.specs.Pictures.{index_field, entry_offset, entry_field, walk_of, root_in}
 use Rattle.ft_trace.specs.Carefuls.{said_of, HasLiveKey, Reached, Sound, Clear, OpensChanged}
 use Rattle.ft_trace.specs.Kinds.{is_key, under, rows, version_at, IsKeyed}
 use Rattle.ft_trace.specs.OddVersions.{Shut}
-use Rattle.ft_trace.specs.Holds.{held_words, known_state, in_hand, AgreesWith}
+use Rattle.ft_trace.specs.Holds.{held_unboxed, known_state, hand_unboxed, AgreesWith, held_words}
 use Rattle.ft_trace.specs.Traces.{IsReachable}
 use Rattle.ft_trace.specs.WholeWrites.{to_table, MayPuts, WholeWrite, with_root_put, at_commit, at_end, after_write_of, MayBegin}
 use Rattle.ft_trace.specs.KeyWrites.{count_puts}
@@ -30,14 +30,16 @@ use Rattle.ft_trace.proofs.DictWrites.{EntryVersionsChangeNothing, version_stand
 use Rattle.ft_trace.proofs.EntryPuts.{entry_close}
 use Rattle.ft_trace.proofs.KeyedWrites.{versions_lie, clear_keyed, sound_keyed, keyed_put, counts_may_be_put, root_stays}
 use Rattle.ft_trace.proofs.KnownContents.{use_of}
-use Rattle.ft_trace.proofs.Pieces.{table_long}
+use Rattle.ft_trace.proofs.Known.{hand_is_long}
 use Rattle.ft_trace.proofs.WriteFacts.{CallFacts, PutsContent, replaces, facts_suffice}
 use Rattle.ft_trace.proofs.Opened.{only_opens}
+use Rattle.ft_trace.specs.declared.Act.TheVariants.{PutRoot}
+use Rattle.ft_trace.specs.Boxes.{HasReferences}
 
 -- `count` is how many there are afterwards, `next` the next serial; the fresh table has the new key in the entry p, whose
 -- version is 1
 module _ (versions : EntryVersionsChangeNothing) (v : View) (o t p count next : ℕ) (key : Key) (x news : Content) (keyed : IsKeyed (kind_of x)) (still : IsKeyed (kind_of news)) (called : Call) (begin : MayBegin v o) (is : (known_state o v).content ≡ x) (named : IsTableName v.shape t) (fresh : stage t v.log ≡ 1) (low : p < rows (kind_of x) (class_of t))
-    (live : HasLiveKey (slots (class_of t)) (in_hand t v) p key) (open_entry : entry_field (slots (class_of t)) (in_hand t v) p 0 ≡ 1) (others : (q : ℕ) → q < rows (kind_of x) (class_of t) → q ≢ p → entry_field (slots (class_of t)) (in_hand t v) q 0 ≡ 0) where
+    (live : HasLiveKey (slots (class_of t)) (hand_unboxed o t v) p key) (open_entry : entry_field (slots (class_of t)) (hand_unboxed o t v) p 0 ≡ 1) (others : (q : ℕ) → q < rows (kind_of x) (class_of t) → q ≢ p → entry_field (slots (class_of t)) (hand_unboxed o t v) q 0 ≡ 0) (refs : HasReferences v.shape v.log (PutRoot o (suc t) (root_in (held_words o v))) o) where
   abbrev kind : Kind
   kind = kind_of x
 
@@ -51,7 +53,7 @@ module _ (versions : EntryVersionsChangeNothing) (v : View) (o t p count next : 
   m = rows kind c
 
   abbrev zs : List ℕ
-  zs = in_hand t v
+  zs = hand_unboxed o t v
 
   abbrev write : WholeWrite
   write = record { root = Some (suc t); early = count_puts count count next; call = called; reply = reply.Done; late = to_table (entry_offset n p 0) 2 ∷ [] }
@@ -60,7 +62,7 @@ module _ (versions : EntryVersionsChangeNothing) (v : View) (o t p count next : 
   block = (at_commit v o write).block
 
   long : n + 8 * m ≤ length zs
-  long = let l = table_long v.shape t (mem v.shape v.log) in let f = keyed_fit kind keyed c in omega (arith, l, f)
+  long = let l = hand_is_long v o t in let f = keyed_fit kind keyed c in omega (arith, l, f)
 
   young : (q : ℕ) → q < m → slice_index zs (version_at kind c q) ≤ 1
   young =
@@ -68,7 +70,7 @@ module _ (versions : EntryVersionsChangeNothing) (v : View) (o t p count next : 
       (λ q less. dite (ℕ_discrete q p) (λ (e : q ≡ p). let one = ap (λ (z : ℕ). entry_field n zs z 0) e ∙ open_entry in omega (arith, one)) (λ ne. let z = others q less ne in omega (arith, z)))
 
   early : MayPuts kind t x false (with_root_put v o (Some (suc t))) (count_puts count count next)
-  early = counts_may_be_put kind t x (slice_set (held_words o v).block 0 (suc t)) zs count count next [] tt
+  early = counts_may_be_put kind t x (slice_set (held_unboxed o v).block 0 (suc t)) zs count count next [] tt
 
   shut : Shut (λ q. entry_offset n q 0) m (at_end v o write).table
   shut q less =
@@ -107,15 +109,15 @@ module _ (versions : EntryVersionsChangeNothing) (v : View) (o t p count next : 
     clear = record { keeps = λ q a less two l. others_stay q a less two l; opens = opens; adds = λ a fits none some. reached a fits some }
 
     names_now : slice_index block 0 ≡ suc t
-    names_now = root_stays (slice_set (held_words o v).block 0 (suc t)) count count next ∙ get_or-set_same (held_words o v).block 0 (suc t) 0 wide
+    names_now = root_stays (slice_set (held_unboxed o v).block 0 (suc t)) count count next ∙ get_or-set_same (held_unboxed o v).block 0 (suc t) 0 wide
       where
-        wide : 0 < length (held_words o v).block
+        wide : 0 < length (held_unboxed o v).block
         wide =
-            let b0 = slice_set (held_words o v).block 0 (suc t) in
+            let b0 = slice_set (held_unboxed o v).block 0 (suc t) in
             let a = length-set (slice_set (slice_set b0 1 count) 2 count) 3 next in
             let b = length-set (slice_set b0 1 count) 2 count in
             let c = length-set b0 1 count in
-            let d = length-set (held_words o v).block 0 (suc t) in
+            let d = length-set (held_unboxed o v).block 0 (suc t) in
             omega (arith, size_is, a, b, c, d)
 
     late : MayPuts kind t news true (at_commit v o write) (to_table (entry_offset n p 0) 2 ∷ [])
@@ -123,15 +125,16 @@ module _ (versions : EntryVersionsChangeNothing) (v : View) (o t p count next : 
         let care =
         entry_close n m zs (under news) p 2 (omega (arith, open_entry)) refl (λ a l. right p a low l)
         (λ a dead. let g = gone_is a in let b = (kind_range a).0 in let h = (kind_range key).1 in let x = live.0 in let e = dead.0 in absurd (omega (arith, g, b, h, x, e))) in
-        (keyed_put kind keyed t news true (at_commit v o write) p 0 2 names_now low (omega arith) care (record { before = λ q less at odd. absurd (omega (arith, odd)); later = λ q less at two. refl }), tt)
+        (keyed_put kind keyed t news true (at_commit v o write) p 0 2 names_now low (omega arith) (λ z. omega (arith, z)) (λ z. omega (arith, z)) care (record { before = λ q less at odd. absurd (omega (arith, odd)); later = λ q less at two. refl }), tt)
 
     pub grow_possible : (start number : ℕ) × (s : Snap) × (stop : ℕ) × IsReachable (after_write_of v o t write start number s stop)
     grow_possible =
         facts_suffice v o t x news (use_of t count) write begin is
         (record {
           called = facts;
-          root = replaces v o t x called begin is named fresh (sound_keyed kind keyed v.shape.texts c zs x sound) young;
+          root = replaces v o t x called begin is named fresh (sound_keyed kind keyed v.shape.texts c zs x sound) young refs;
           early = early;
+          boxes = tt;
           names = names_now;
           clear = clear_keyed kind keyed v.shape.texts c zs x news clear;
           late = late;

@@ -24,7 +24,7 @@ use Rattle.ft_trace.specs.declared.Snap.{Snap}
 use Rattle.ft_trace.specs.declared.View.{View}
 use Rattle.ft_trace.specs.Addresses.{class_of, places}
 use Rattle.ft_trace.specs.Kinds.{is_key, pair_words, under}
-use Rattle.ft_trace.specs.Holds.{known_state, in_hand, AgreesWith}
+use Rattle.ft_trace.specs.Holds.{known_state, hand_unboxed, AgreesWith}
 use Rattle.ft_trace.specs.Traces.{IsReachable}
 use Rattle.ft_trace.specs.WholeWrites.{WholeWrite, at_commit, after_write_of, MayBegin}
 use Rattle.ft_trace.specs.GrowWrites.{dict_grow_write, HasGrown, DictsMayGrow}
@@ -91,7 +91,7 @@ module _ (versions : EntryVersionsChangeNothing) (first : FirstEntriesArePairs) 
   c = class_of t
 
   abbrev zs : List ℕ
-  zs = in_hand t v
+  zs = hand_unboxed o t v
 
   abbrev news : DictContent
   news = dict_set pairs key value
@@ -144,7 +144,7 @@ module _ (versions : EntryVersionsChangeNothing) (first : FirstEntriesArePairs) 
         ∙ ap (λ (z : ℕ). taken c z) count_is))
 
   all_fit : All (λ pair. FitsKey pair.key × FitsValue pair.value) news.pairs
-  all_fit = dict_fits_words k.texts (at_commit v o write).block (0 ∷ 0 ∷ in_hand t v) (class_of t) (length pairs.pairs + 1) (dict_set pairs key value) has.words
+  all_fit = dict_fits_words k.texts (at_commit v o write).block (0 ∷ 0 ∷ hand_unboxed o t v) (class_of t) (length pairs.pairs + 1) (dict_set pairs key value) has.words
 
   fits : FitsKey key × FitsValue value
   fits = set_fit pairs key value has.missing all_fit
@@ -156,7 +156,7 @@ module _ (versions : EntryVersionsChangeNothing) (first : FirstEntriesArePairs) 
 
   pub dict_grow_possible : (start number : ℕ) × (s : Snap) × (stop : ℕ) × IsReachable (after_write_of v o t write start number s stop)
   dict_grow_possible =
-      grow_possible versions v o t p fill (pairs.next + 1) key (content.Dict pairs) (content.Dict news) tt tt called begin is_dict has.table has.fresh has.low has.live has.open_entry has.others has.words has.words.head.size (dict_right first k.texts block c fill class_is news zs has.words) (dict_named first k.texts block c fill class_is news zs has.words) (dict_reached first k.texts block c fill class_is news zs has.words)
+      grow_possible versions v o t p fill (pairs.next + 1) key (content.Dict pairs) (content.Dict news) tt tt called begin is_dict has.table has.fresh has.low has.live has.open_entry has.others has.references has.words has.words.head.size (dict_right first k.texts block c fill class_is news zs has.words) (dict_named first k.texts block c fill class_is news zs has.words) (dict_reached first k.texts block c fill class_is news zs has.words)
       (λ q a less ne l yes.
       let fits : dict_room (class_mask c) ≡ places c = room_is first k.texts block c fill class_is news zs has.words in
       let low = has.low in

@@ -1,5 +1,5 @@
 -- What a pass hands over when another takes it in: just the tables that it keeps retired, with their goals.
-use Rattle.std.proofs.Common.{◌≡◌, ℕ, eqb, Bool, true, false, cond, List, [], ◌∷◌, ◌++◌, map, refl, sym, ap, ◌∙◌, arith}
+use Rattle.std.proofs.Common.{◌≡◌, ℕ, eqb, Bool, true, false, cond, List, [], ◌∷◌, ◌++◌, map, refl, sym, ap, ◌∙◌}
 use mathlib.Core.Logic.{dite}
 use native.Mathlib.Decide.{ℕ_discrete}
 use Rattle.std.proofs.lemmas.Bool.{eqb-true}
@@ -26,12 +26,6 @@ kept_says t l kept =
     either_way (eqb (stage t l) 4)
     (λ four. (eqb-true (stage t l) 4 four, sym (where_true (eqb (stage t l) 4) (has_goal t l) false four) ∙ kept))
     (λ other. off (sym (where_false (eqb (stage t l) 4) (has_goal t l) false other) ∙ kept))
-
--- a table that is fresh after a join was so before
-pub fresh_before : (t : ℕ) (hs : List Handed) (n : ℕ) → cond (is_handed t hs) 4 n ≡ 1 → n ≡ 1
-fresh_before t hs n one =
-    either_way (is_handed t hs) (λ there. let e : 4 ≡ 1 = sym (where_true (is_handed t hs) 4 n there) ∙ one in absurd (omega (arith, e)))
-    (λ none. sym (where_false (is_handed t hs) 4 n none) ∙ one)
 
 -- ---- what is handed over is kept retired, with its goal
 

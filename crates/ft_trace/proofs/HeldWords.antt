@@ -12,7 +12,7 @@ use Rattle.ft_trace.specs.Acts.{has_lock, is_writing}
 use Rattle.ft_trace.specs.Traces.{Event, run, history, StandsFor, Valid}
 use Rattle.ft_trace.proofs.Locks.{one_holder}
 use Rattle.ft_trace.proofs.OddVersions.{version, versioned, writer_has}
-use Rattle.ft_trace.proofs.Contents.{stands}
+use Rattle.ft_trace.proofs.Standing.{stands}
 
 pub holder_even : (k : Shape) (es : List Event) → Valid k es → (o : ℕ) → o < container_count k → (j : ℕ) (u : View) → get_elem? (run k es).views j ≡ some u → has_lock o u.log ≡ true → is_writing o u.log ≡ false → version k es o % 2 ≡ 0
 holder_even k es valid o low j u at mine quiet =

@@ -24,7 +24,9 @@ use Rattle.ft_trace.specs.Pictures.{item_offset, item_field}
 use Rattle.ft_trace.specs.ItemWords.{said_at, value_words, words_at, ItemCareful, ItemClear}
 use Rattle.ft_trace.specs.Kinds.{rows, version_at}
 use Rattle.ft_trace.specs.OddVersions.{Shut, Timely}
-use Rattle.ft_trace.specs.WholeWrites.{to_table, MayPut, MayPuts}
+use Rattle.ft_trace.specs.WholeWrites.{to_table, MayPut, MayPuts, to_value}
+use Rattle.ft_trace.proofs.Cases.{off}
+use Rattle.ft_trace.proofs.ValuePlaces.{plain_kind, item_far}
 use Rattle.ft_trace.specs.ItemWrites.{item_puts, item_closed}
 use Rattle.ft_trace.proofs.ByKind.{items_fit}
 use Rattle.ft_trace.proofs.Known.{after_header, past_header}
@@ -119,14 +121,12 @@ module _ (t : ℕ) (is_class : IsClass (class_of t)) (b ws : List ℕ) (values n
   early_time : (w x : ℕ) → w < 4 → (w ≡ 0 → x % 2 ≡ 1) → Timely (version_at kind.List c) (rows kind.List c) (item_offset p w) x false
   early_time w x few odd = record { before = λ q less e one. refl; later = λ q less e two. absurd (let o = odd (omega (arith, few, e)) in omega (arith, two, o)) }
 
-  pub item_early : MayPuts kind.List t (content.List values) false (record { block = b; table = ws }) (item_puts ws p value)
-  item_early =
+  pub item_early : (box : Option ℕ) → MayPuts kind.List t (content.List values) false (record { block = b; table = ws }) (item_puts ws p box value)
+  item_early box =
       let odd1 : item_field a1 p 0 % 2 ≡ 1 = let e = ver1 in let v = even in omega (arith, e, v) in
-      let odd2 : item_field a2 p 0 % 2 ≡ 1 = let e = ver2 in let v = even in omega (arith, e, v) in
-      let third : MayPut kind.List t (content.List values) false (record { block = b; table = a2 }) (to_table (item_offset p 2) (stored_payload (Plain value))) = (names, inside 2 (omega arith), item_word_put (slots c) a2 values p 2 (stored_payload (Plain value)) (omega arith) (omega arith) odd2, early_time 2 (stored_payload (Plain value)) (omega arith) (λ e. absurd (omega (arith, e)))) in
-      let second : MayPut kind.List t (content.List values) false (record { block = b; table = a1 }) (to_table (item_offset p 1) (stored_kind (Plain value))) = (names, inside 1 (omega arith), item_word_put (slots c) a1 values p 1 (stored_kind (Plain value)) (omega arith) (omega arith) odd1, early_time 1 (stored_kind (Plain value)) (omega arith) (λ e. absurd (omega (arith, e)))) in
-      let first : MayPut kind.List t (content.List values) false (record { block = b; table = ws }) (to_table (item_offset p 0) (ver + 1)) = (names, inside 0 (omega arith), item_open (slots c) ws values p even, early_time 0 (ver + 1) (omega arith) (λ _. let v = even in omega (arith, v))) in
-      (first, (second, (third, tt)))
+      let second : MayPut kind.List t (content.List values) false (record { block = b; table = a1 }) (to_value box (item_offset p 1) (item_offset p 2) (stored_kind (Plain value)) (stored_payload (Plain value))) = (names, (p, low, refl, omega arith, odd1), plain_kind value, λ e. off e) in
+      let first : MayPut kind.List t (content.List values) false (record { block = b; table = ws }) (to_table (item_offset p 0) (ver + 1)) = (names, inside 0 (omega arith), item_open (slots c) ws values p even, early_time 0 (ver + 1) (omega arith) (λ _. let v = even in omega (arith, v)), item_far c p) in
+      (first, (second, tt))
 
   pub item_clear : words_at values p ≢ value_words value → ItemClear (slots c) a3 values news
   item_clear other = record {
@@ -148,7 +148,7 @@ module _ (t : ℕ) (is_class : IsClass (class_of t)) (b ws : List ℕ) (values n
   item_late =
       let v3 = ver3 in
       let old = even in
-      ((names, inside 0 (omega arith), item_close (slots c) a3 news p (ver + 2) (omega (arith, v3)) says3, record { before = λ q less e one. absurd (omega (arith, one, old)); later = λ q less e two. refl }), tt)
+      ((names, inside 0 (omega arith), item_close (slots c) a3 news p (ver + 2) (omega (arith, v3)) says3, record { before = λ q less e one. absurd (omega (arith, one, old)); later = λ q less e two. refl }, item_far c p), tt)
 
   pub item_shut : Shut (version_at kind.List c) (rows kind.List c) a4
   item_shut q less =

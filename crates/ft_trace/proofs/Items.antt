@@ -1,5 +1,5 @@
 -- Puts with care, on lists of words alone: tables of lists.
-use Rattle.std.proofs.Common.{◌≡◌, ◌≢◌, ℕ, ◌%◌, ◌<◌, List, [], ◌∷◌, length, refl, sym, ap, ◌∙◌, arith, get_or-set_other, get_or-set_same, le_refl, le_trans}
+use Rattle.std.proofs.Common.{◌≡◌, ◌≢◌, ℕ, suc, ◌%◌, ◌<◌, List, [], ◌∷◌, length, refl, sym, ap, ◌∙◌, arith, get_or-set_other, get_or-set_same, le_refl, le_trans}
 use Rattle.std.specs.Prelude.{slice_index, slice_set}
 use mathlib.Core.Logic.{dite}
 use native.Mathlib.Decide.{ℕ_discrete}
@@ -20,6 +20,21 @@ item_trans n ws ys zs a b = record {
       b.same p w low some_w small (ap (λ (n : ℕ). n % 2) here ∙ even) (e ∙ sym here) ∙ a.same p w low some_w small even here;
 }
 
+-- what is asked of a put but for what the list has
+pub record ItemCarefulWords (n : ℕ) (ws : List ℕ) (i x : ℕ) : Type 0 where
+  pub odd : (p w : ℕ) → p < n → 0 < w → w < 4 → i ≡ item_offset p w → item_field ws p 0 % 2 ≡ 1
+  pub version : (p : ℕ) → p < n → i ≡ item_offset p 0 → x ≡ suc (item_field ws p 0)
+
+pub item_careful_words : (n : ℕ) (ws : List ℕ) (values : List Value) (i x : ℕ) → ItemCareful n ws values i x → ItemCarefulWords n ws i x
+item_careful_words n ws values i x care = record { odd = care.odd; version = care.version }
+
+-- what stays of the table
+pub item_put_later : (n long_is : ℕ) (ws : List ℕ) (i x : ℕ) → length ws ≡ long_is → i < long_is → ItemCarefulWords n ws i x → ItemLater n ws (slice_set ws i x)
+item_put_later n long_is ws i x long low_i care = record {
+  version = λ p low. dite (ℕ_discrete i (item_offset p 0)) (λ (e : i ≡ item_offset p 0). let v = care.version p low e in let h : item_field (slice_set ws i x) p 0 ≡ x = ap (λ (z : ℕ). slice_index (slice_set ws i x) z) (sym e) ∙ get_or-set_same ws i x 0 (omega arith) in omega (arith, v, h)) (λ ne. let h : item_field (slice_set ws i x) p 0 ≡ item_field ws p 0 = get_or-set_other ws i (item_offset p 0) x 0 (λ e. ne (sym e)) in omega (arith, h));
+  same = λ p w low some_w small even e. get_or-set_other ws i (item_offset p w) x 0 (λ e2. let o = care.odd p w low some_w small (sym e2) in absurd (omega (arith, o, even)));
+}
+
 module _ (n long_is : ℕ) (ws : List ℕ) (values : List Value) (i x : ℕ) (long : length ws ≡ long_is) (low_i : i < long_is) (care : ItemCareful n ws values i x) where
   abbrev zs : List ℕ
   zs = slice_set ws i x
@@ -32,12 +47,6 @@ module _ (n long_is : ℕ) (ws : List ℕ) (values : List Value) (i x : ℕ) (lo
 
   kept : (p w : ℕ) → p < n → 0 < w → w < 4 → item_field ws p 0 % 2 ≡ 0 → item_field zs p w ≡ item_field ws p w
   kept p w low some_w small even = else (item_offset p w) (λ e. let o = care.odd p w low some_w small (sym e) in absurd (omega (arith, o, even)))
-
-  pub item_careful_later : ItemLater n ws zs
-  item_careful_later = record {
-    version = λ p low. dite (ℕ_discrete i (item_offset p 0)) (λ e. let v = care.version p low e in let h = here (item_offset p 0) e in omega (arith, v, h)) (λ ne. let h = else (item_offset p 0) (λ e. ne (sym e)) in omega (arith, h));
-    same = λ p w low some_w small even e. kept p w low some_w small even;
-  }
 
   says_same : (p : ℕ) → ((w : ℕ) → 0 < w → w < 4 → item_field zs p w ≡ item_field ws p w) → said_at zs p ≡ said_at ws p
   says_same p same =

@@ -28,11 +28,13 @@ use Rattle.ft_trace.specs.Pictures.{root_in, index_field, entry_offset, entry_fi
 use Rattle.ft_trace.specs.Carefuls.{Careful, Clear}
 use Rattle.ft_trace.specs.Kinds.{under}
 use Rattle.ft_trace.specs.OddVersions.{Shut}
-use Rattle.ft_trace.specs.Holds.{held_words, known_state, AgreesWith}
+use Rattle.ft_trace.specs.Holds.{held_unboxed, known_state, AgreesWith}
 use Rattle.ft_trace.specs.Traces.{IsReachable}
 use Rattle.ft_trace.specs.Grants.{MayWrite}
-use Rattle.ft_trace.specs.WholeWrites.{to_table, MayPut, MayPuts, WholeWrite, at_commit, at_end, after_write_of}
-use Rattle.ft_trace.specs.EntryWrites.{entry_closed}
+use Rattle.ft_trace.specs.WholeWrites.{to_table, MayPut, MayPuts, WholeWrite, at_commit, at_end, after_write_of, to_value, IsNoValue}
+use Rattle.ft_trace.proofs.Cases.{off}
+use Rattle.ft_trace.proofs.ValuePlaces.{plain_kind, entry_far, slot_far}
+use Rattle.ft_trace.specs.EntryWrites.{entry_closed, MayStandIn}
 use Rattle.ft_trace.specs.KeyWrites.{key_puts, count_puts, dict_add_write, KeysMayBeAdded}
 use Rattle.ft_trace.proofs.FitCalls.{dict_fits_words, set_fit}
 use Rattle.ft_trace.proofs.Known.{in_bank, table_is_long}
@@ -52,9 +54,9 @@ pub and_false : (b : Bool) → (b && false) ≡ false
 and_false true = refl
 and_false false = refl
 
-module _ (versions : EntryVersionsChangeNothing) (first : FirstEntriesArePairs) (v : View) (o t slot : ℕ) (key : Key) (value : Value) (pairs : DictContent) (may : MayWrite v o) (is_dict : (known_state o v).content ≡ content.Dict pairs) (names : root_in (held_words o v) ≡ suc t)
-    (room : (known_state o v).table.fill < places (class_of t)) (in_index : slot < slots (class_of t)) (free : index_field (held_words o v).table slot ≡ 0) (missing : has_key pairs.pairs key ≡ false)
-    (now : IsDictWords v.shape.texts (at_commit v o (dict_add_write v o t slot key value pairs)).block (0 ∷ 0 ∷ (at_commit v o (dict_add_write v o t slot key value pairs)).table) (Some (class_of t)) ((known_state o v).table.fill + 1) (dict_set pairs key value)) where
+module _ (versions : EntryVersionsChangeNothing) (first : FirstEntriesArePairs) (v : View) (o t slot : ℕ) (key : Key) (box : Option ℕ) (value : Value) (pairs : DictContent) (may : MayWrite v o) (is_dict : (known_state o v).content ≡ content.Dict pairs) (names : root_in (held_unboxed o v) ≡ suc t)
+    (room : (known_state o v).table.fill < places (class_of t)) (in_index : slot < slots (class_of t)) (free : index_field (held_unboxed o v).table slot ≡ 0) (missing : has_key pairs.pairs key ≡ false)
+    (stands : MayStandIn v box value) (now : IsDictWords v.shape.texts (at_commit v o (dict_add_write v o t slot key box value pairs)).block (0 ∷ 0 ∷ (at_commit v o (dict_add_write v o t slot key box value pairs)).table) (Some (class_of t)) ((known_state o v).table.fill + 1) (dict_set pairs key value)) where
   abbrev k : Shape
   k = v.shape
 
@@ -71,7 +73,7 @@ module _ (versions : EntryVersionsChangeNothing) (first : FirstEntriesArePairs) 
   p = (known_state o v).table.fill
 
   abbrev ws : List ℕ
-  ws = (held_words o v).table
+  ws = (held_unboxed o v).table
 
   abbrev news : DictContent
   news = dict_set pairs key value
@@ -80,7 +82,7 @@ module _ (versions : EntryVersionsChangeNothing) (first : FirstEntriesArePairs) 
   called = call.Dict o (dict.Set key value)
 
   abbrev write : WholeWrite
-  write = dict_add_write v o t slot key value pairs
+  write = dict_add_write v o t slot key box value pairs
 
   abbrev block : List ℕ
   block = (at_commit v o write).block
@@ -97,7 +99,7 @@ module _ (versions : EntryVersionsChangeNothing) (first : FirstEntriesArePairs) 
   long : length ws ≡ n + 8 * m
   long = table_is_long v o t names
 
-  says : IsDictWords k.texts (held_words o v).block (0 ∷ 0 ∷ ws) (Some c) p pairs
+  says : IsDictWords k.texts (held_unboxed o v).block (0 ∷ 0 ∷ ws) (Some c) p pairs
   says = known_says v o t (content.Dict pairs) may is_dict names
 
   shut : Shut (λ q. entry_offset n q 0) m ws
@@ -109,7 +111,7 @@ module _ (versions : EntryVersionsChangeNothing) (first : FirstEntriesArePairs) 
   -- the entry was never used
   none : entry_field n ws p 2 ≡ 0
   none =
-      let fits : dict_room (class_mask c) ≡ m = room_is first k.texts (held_words o v).block c p class_is pairs ws says in
+      let fits : dict_room (class_mask c) ≡ m = room_is first k.texts (held_unboxed o v).block c p class_is pairs ws says in
       let filled = says.filled in
       let u = says.table.unused p (omega (arith, filled)) (omega (arith, fits, room)) in
       sym (word_is (λ hash. dict_slots hash (class_mask c) (class_mask c + 14)) (dict_room (class_mask c)) k.texts c class_is says.used ws says.table p 2) ∙ u.kind
@@ -120,7 +122,7 @@ module _ (versions : EntryVersionsChangeNothing) (first : FirstEntriesArePairs) 
   -- ---- the puts
 
   abbrev b0 : List ℕ
-  b0 = (held_words o v).block
+  b0 = (held_unboxed o v).block
 
   names_now : slice_index block 0 ≡ suc t
   names_now = root_stays b0 (length pairs.pairs + 1) (p + 1) (pairs.next + 1) ∙ names
@@ -129,7 +131,7 @@ module _ (versions : EntryVersionsChangeNothing) (first : FirstEntriesArePairs) 
   inside w few = omega (arith, few, room)
 
   -- one put into the table
-  table_put : (l : List ℕ) (i x : ℕ) → i < size c → Careful n m l (under (content.Dict pairs)) i x → ((q : ℕ) → i ≡ entry_offset n q 0 → x % 2 ≡ 1) → MayPut kind.Dict t (content.Dict pairs) false (record { block = block; table = l }) (to_table i x)
+  table_put : (l : List ℕ) (i x : ℕ) → i < size c → Careful n m l (under (content.Dict pairs)) i x → ((q : ℕ) → i ≡ entry_offset n q 0 → x % 2 ≡ 1) → IsNoValue kind.Dict c i → MayPut kind.Dict t (content.Dict pairs) false (record { block = block; table = l }) (to_table i x)
   table_put l i x = put_while_open kind.Dict tt t (content.Dict pairs) (record { block = block; table = l }) i x names_now
 
   at_least : n + 8 * m ≤ length ws
@@ -178,24 +180,24 @@ module _ (versions : EntryVersionsChangeNothing) (first : FirstEntriesArePairs) 
   s6 : At l6
   s6 = next_stage l5 s5 6 pairs.next (omega arith) (λ e. absurd (omega (arith, e))) (λ e. absurd (omega (arith, e)))
 
-  puts : MayPuts kind.Dict t (content.Dict pairs) false (record { block = block; table = ws }) (key_puts n ws p slot (hash_of k.texts key) key value pairs.next)
+  puts : MayPuts kind.Dict t (content.Dict pairs) false (record { block = block; table = ws }) (key_puts n ws p slot (hash_of k.texts key) key box value pairs.next)
   puts =
       let before = under (content.Dict pairs) in
       let e = even in
       let of_key = new_key n m ws p slot room in_index at_least even none free before in
       let of_value = new_value n m ws p slot room in_index at_least even none free before in
-      let p1 = table_put ws (entry_offset n p 0) (ver + 1) (inside 0 (omega arith)) (new_open n m ws p slot room in_index at_least even none free before) (λ q z. omega (arith, e)) in
-      let p2 = table_put l1 (entry_offset n p 1) (hash_of k.texts key) (inside 1 (omega arith)) (of_key l1 s1 1 (hash_of k.texts key) (inl refl)) (λ q z. absurd (omega (arith, z))) in
-      let p3 = table_put l2 (entry_offset n p 3) (key_payload key) (inside 3 (omega arith)) (of_key l2 s2 3 (key_payload key) (inr refl)) (λ q z. absurd (omega (arith, z))) in
-      let p4 = table_put l3 (entry_offset n p 4) (stored_kind (Plain value)) (inside 4 (omega arith)) (of_value l3 s3 4 (stored_kind (Plain value)) (omega arith) (omega arith)) (λ q z. absurd (omega (arith, z))) in
-      let p5 = table_put l4 (entry_offset n p 5) (stored_payload (Plain value)) (inside 5 (omega arith)) (of_value l4 s4 5 (stored_payload (Plain value)) (omega arith) (omega arith)) (λ q z. absurd (omega (arith, z))) in
-      let p6 = table_put l5 (entry_offset n p 6) pairs.next (inside 6 (omega arith)) (of_value l5 s5 6 pairs.next (omega arith) (omega arith)) (λ q z. absurd (omega (arith, z))) in
-      let p7 = table_put l6 (entry_offset n p 2) (key_kind key) (inside 2 (omega arith)) (new_kind n m ws p slot room in_index at_least even none free key l6 s6 before) (λ q z. absurd (omega (arith, z))) in
-      let p8 = table_put (slice_set l6 (entry_offset n p 2) (key_kind key)) slot (p + 1) (omega (arith, in_index)) (new_index n m ws p slot room in_index at_least even none free key l6 s6 before) (λ q z. absurd (omega (arith, z, in_index))) in
-      (p1, (p2, (p3, (p4, (p5, (p6, (p7, (p8, tt))))))))
+      let p1 = table_put ws (entry_offset n p 0) (ver + 1) (inside 0 (omega arith)) (new_open n m ws p slot room in_index at_least even none free before) (λ q z. omega (arith, e)) (entry_far c p 0 (omega arith) (λ z. omega (arith, z)) (λ z. omega (arith, z))) in
+      let p2 = table_put l1 (entry_offset n p 1) (hash_of k.texts key) (inside 1 (omega arith)) (of_key l1 s1 1 (hash_of k.texts key) (inl refl)) (λ q z. absurd (omega (arith, z))) (entry_far c p 1 (omega arith) (λ z. omega (arith, z)) (λ z. omega (arith, z))) in
+      let p3 = table_put l2 (entry_offset n p 3) (key_payload key) (inside 3 (omega arith)) (of_key l2 s2 3 (key_payload key) (inr refl)) (λ q z. absurd (omega (arith, z))) (entry_far c p 3 (omega arith) (λ z. omega (arith, z)) (λ z. omega (arith, z))) in
+      let odd3 : entry_field n l3 p 0 % 2 ≡ 1 = let v3 = s3.ver_is in omega (arith, v3, e) in
+      let p4 : MayPut kind.Dict t (content.Dict pairs) false (record { block = block; table = l3 }) (to_value box (entry_offset n p 4) (entry_offset n p 5) (stored_kind (Plain value)) (stored_payload (Plain value))) = (names_now, (p, room, refl, omega arith, odd3), plain_kind value, λ e. off e) in
+      let p6 = table_put l5 (entry_offset n p 6) pairs.next (inside 6 (omega arith)) (of_value l5 s5 6 pairs.next (omega arith) (omega arith)) (λ q z. absurd (omega (arith, z))) (entry_far c p 6 (omega arith) (λ z. omega (arith, z)) (λ z. omega (arith, z))) in
+      let p7 = table_put l6 (entry_offset n p 2) (key_kind key) (inside 2 (omega arith)) (new_kind n m ws p slot room in_index at_least even none free key l6 s6 before) (λ q z. absurd (omega (arith, z))) (entry_far c p 2 (omega arith) (λ z. omega (arith, z)) (λ z. omega (arith, z))) in
+      let p8 = table_put (slice_set l6 (entry_offset n p 2) (key_kind key)) slot (p + 1) (omega (arith, in_index)) (new_index n m ws p slot room in_index at_least even none free key l6 s6 before) (λ q z. absurd (omega (arith, z, in_index))) (slot_far c slot in_index) in
+      (p1, (p2, (p3, (p4, (p6, (p7, (p8, tt)))))))
 
-  early : MayPuts kind.Dict t (content.Dict pairs) false (held_words o v) (count_puts (length pairs.pairs + 1) (p + 1) (pairs.next + 1) ++ key_puts n ws p slot (hash_of k.texts key) key value pairs.next)
-  early = counts_may_be_put kind.Dict t (content.Dict pairs) b0 ws (length pairs.pairs + 1) (p + 1) (pairs.next + 1) (key_puts n ws p slot (hash_of k.texts key) key value pairs.next) puts
+  early : MayPuts kind.Dict t (content.Dict pairs) false (held_unboxed o v) (count_puts (length pairs.pairs + 1) (p + 1) (pairs.next + 1) ++ key_puts n ws p slot (hash_of k.texts key) key box value pairs.next)
+  early = counts_may_be_put kind.Dict t (content.Dict pairs) b0 ws (length pairs.pairs + 1) (p + 1) (pairs.next + 1) (key_puts n ws p slot (hash_of k.texts key) key box value pairs.next) puts
 
   fits : FitsKey key × FitsValue value
   fits = set_fit pairs key value missing (dict_fits_words k.texts block (0 ∷ 0 ∷ put) c (p + 1) news now)
@@ -210,7 +212,7 @@ module _ (versions : EntryVersionsChangeNothing) (first : FirstEntriesArePairs) 
 
   -- nothing is under the key before
   lacks : under (content.Dict pairs) key ≡ []
-  lacks = dict_lacks pairs key fits.0 (dict_fits_words k.texts (held_words o v).block (0 ∷ 0 ∷ ws) c p pairs says) missing
+  lacks = dict_lacks pairs key fits.0 (dict_fits_words k.texts (held_unboxed o v).block (0 ∷ 0 ∷ ws) c p pairs says) missing
 
   clear : Clear (walk_of kind.Dict k.texts c) n m put (under (content.Dict pairs)) (under (content.Dict news))
   clear =
@@ -224,7 +226,7 @@ module _ (versions : EntryVersionsChangeNothing) (first : FirstEntriesArePairs) 
       let care =
       new_late n m ws p slot room in_index at_least even none free key l6 s6 (under (content.Dict news))
       (λ a l. dict_right first k.texts block c (p + 1) class_is news put now p a room l) in
-      ((names_now, inside 0 (omega arith), care, record { before = λ q less at one. absurd (omega (arith, one, e)); later = λ q less at two. refl }), tt)
+      ((names_now, inside 0 (omega arith), care, record { before = λ q less at one. absurd (omega (arith, one, e)); later = λ q less at two. refl }, entry_far c p 0 (omega arith) (λ z. omega (arith, z)) (λ z. omega (arith, z))), tt)
 
   ends : IsDictWords k.texts block (0 ∷ 0 ∷ (at_end v o write).table) (Some c) (p + 1) news
   ends = version_stands versions k.texts block put c (p + 1) p (ver + 2) class_is (content.Dict news) tt now
@@ -285,6 +287,7 @@ module _ (versions : EntryVersionsChangeNothing) (first : FirstEntriesArePairs) 
         called = record { of = refl; wrote = refl; fits = fits; locks = one_locked o v.log may.mine; replied = λ r e. inr e; declared = λ world one. record { one = one; both = tt; room = tt } };
         root = tt;
         early = early;
+        boxes = (stands, tt);
         names = names_now;
         clear = clear;
         late = late;
@@ -300,4 +303,4 @@ module _ (versions : EntryVersionsChangeNothing) (first : FirstEntriesArePairs) 
       })
 
 pub keys_may_be_added : EntryVersionsChangeNothing → FirstEntriesArePairs → KeysMayBeAdded
-keys_may_be_added versions first v o t slot key value pairs may is_dict names room in_index free missing now = add_possible versions first v o t slot key value pairs may is_dict names room in_index free missing now
+keys_may_be_added versions first v o t slot key box value pairs may is_dict names room in_index free missing stands now = add_possible versions first v o t slot key box value pairs may is_dict names room in_index free missing stands now

@@ -16,7 +16,7 @@ use Rattle.ft_model.specs.TableUses.{TableUse, table_at, takes_in, stored_newest
 use Rattle.ft_layout.specs.Words.{FitsKey, key_kind, key_payload}
 use Rattle.ft_trace.specs.Addresses.{class_of, slots}
 use Rattle.ft_trace.specs.FitCalls.{FitsValue}
-use Rattle.ft_trace.specs.Holds.{held_words, known_state}
+use Rattle.ft_trace.specs.Holds.{held_unboxed, known_state}
 use Rattle.ft_trace.specs.Kinds.{is_key, pair_words, under}
 use Rattle.ft_trace.specs.WholeWrites.{at_commit}
 use Rattle.ft_trace.specs.DeleteWrites.{dict_del_write, KeysMayBeDeleted}
@@ -43,9 +43,9 @@ keys_may_be_deleted versions first v o t place key pairs may is_dict names low l
     let at = at_commit v o (dict_del_write v o t place key pairs) in
     let says = known_says v o t (content.Dict pairs) may is_dict names in
     delete_possible versions v o t place (length pairs.pairs - 1) key (content.Dict pairs) (content.Dict news) tt tt (call.Dict o (dict.Del key)) may is_dict names low live now
-    (λ a same. none_under pairs key a fits (dict_fits_words v.shape.texts (held_words o v).block (0 ∷ 0 ∷ (held_words o v).table) (class_of t) fill pairs says) same)
-    (dict_clear first v.shape.texts at.block (held_words o v).block (class_of t) fill fill (in_bank v o t may.low may.possible may.mine names).0 pairs news (held_words o v).table at.table says now)
-    (λ e. let x : said_of (slots (class_of t)) (held_words o v).table place ≡ [] = sym (dict_right first v.shape.texts (held_words o v).block (class_of t) fill (in_bank v o t may.low may.possible may.mine names).0 pairs (held_words o v).table says place key low live) ∙ e in absurd (cc))
+    (λ a same. none_under pairs key a fits (dict_fits_words v.shape.texts (held_unboxed o v).block (0 ∷ 0 ∷ (held_unboxed o v).table) (class_of t) fill pairs says) same)
+    (dict_clear first v.shape.texts at.block (held_unboxed o v).block (class_of t) fill fill (in_bank v o t may.low may.possible may.mine names).0 pairs news (held_unboxed o v).table at.table says now)
+    (λ e. let x : said_of (slots (class_of t)) (held_unboxed o v).table place ≡ [] = sym (dict_right first v.shape.texts (held_unboxed o v).block (class_of t) fill (in_bank v o t may.low may.possible may.mine names).0 pairs (held_unboxed o v).table says place key low live) ∙ e in absurd (cc))
     (record { of = refl; wrote = refl; fits = fits; locks = one_locked o v.log may.mine; replied = λ r e. inr e; declared = λ world one. record { one = one; both = tt; room = tt } })
     (λ calls agree.
     let world = (stored_newest v.shape.starts calls).world in

@@ -22,7 +22,11 @@ use Rattle.ft_trace.specs.Addresses.{container_count, class_of, size, IsTableNam
 use Rattle.ft_trace.specs.Acts.{has_lock, mem}
 use Rattle.ft_trace.specs.ContainerStates.{ContainerState, container_after, kind_in, kinds_in}
 use Rattle.ft_trace.specs.Pictures.{root_of, inner, ContainerWords, root_in, Represents}
-use Rattle.ft_trace.specs.Holds.{held_words, known_state}
+use Rattle.ft_trace.specs.Holds.{held_words, known_state, held_unboxed, in_hand, hand_unboxed}
+use Rattle.ft_trace.specs.Kinds.{rows}
+use Rattle.ft_trace.specs.Boxes.{known_box_word}
+use Rattle.ft_trace.specs.Unboxed.{unboxed_table}
+use Rattle.ft_trace.proofs.ReadTables.{rows_long}
 use Rattle.ft_trace.specs.Traces.{Event, did, forked, joined, sent, run, writes_of, history, May, Valid, IsReachable}
 use Rattle.ft_trace.proofs.Held.{content_known, root_known}
 use Rattle.ft_trace.proofs.Pieces.{block_at, table_long}
@@ -104,11 +108,19 @@ module _ (v : View) (o t : ℕ) where
   pub in_bank : o < container_count v.shape → IsReachable v → has_lock o v.log ≡ true → root_in (held_words o v) ≡ suc t → IsTableName v.shape t
   in_bank low p mine names = root_table v.shape p.0 p.2.0 o low t (sym (root_known v o low mine p.0 p.1 p.2) ∙ names)
 
-  pub table_is_long : root_in (held_words o v) ≡ suc t → length (held_words o v).table ≡ size (class_of t)
+  pub table_is_long : root_in (held_words o v) ≡ suc t → length (held_unboxed o v).table ≡ size (class_of t)
   table_is_long names =
+      let kd : Kind = kind_in v.shape.starts o in
+      let box : ℕ → ℕ → ℕ = λ b i. known_box_word v.shape b i v.log in
       let ws = mem v.shape v.log in
       let root : root_of v.shape o ws ≡ suc t = sym (block_at v.shape o ws 0 (omega arith)) ∙ names in
-      ap (λ (r : ℕ). length (inner v.shape r ws)) root ∙ table_long v.shape t ws
+      let raw : length (held_words o v).table ≡ size (class_of t) = ap (λ (r : ℕ). length (inner v.shape r ws)) root ∙ table_long v.shape t ws in
+      ap (λ (r : ℕ). length (unboxed_table box kd r (held_words o v).table)) names ∙ (rows_long box kd (class_of t) (rows kd (class_of t)) (held_words o v).table ∙ raw)
+
+  pub hand_is_long : length (hand_unboxed o t v) ≡ size (class_of t)
+  hand_is_long =
+      let kd : Kind = kind_in v.shape.starts o in
+      rows_long (λ b i. known_box_word v.shape b i v.log) kd (class_of t) (rows kd (class_of t)) (in_hand t v) ∙ table_long v.shape t (mem v.shape v.log)
 
 -- ---- stored worlds
 

@@ -17,7 +17,10 @@ use Rattle.ft_trace.specs.ContainerStates.{ContainerState, kind_in}
 use Rattle.ft_trace.specs.Pictures.{root_in}
 use Rattle.ft_trace.specs.Kinds.{rows, version_at}
 use Rattle.ft_trace.specs.OddVersions.{Shut}
-use Rattle.ft_trace.specs.Holds.{held_words, known_state, AgreesWith}
+use Rattle.ft_trace.specs.Holds.{held_words, held_unboxed, known_state, AgreesWith}
+use Rattle.ft_trace.specs.Boxes.{known_box_word}
+use Rattle.ft_trace.specs.Unboxed.{unboxed_table}
+use Rattle.ft_trace.proofs.PlainPuts.{read_shut}
 use Rattle.ft_trace.specs.Traces.{IsReachable}
 use Rattle.ft_trace.specs.Grants.{MayWrite}
 use Rattle.ft_trace.proofs.Held.{held_stands}
@@ -36,13 +39,19 @@ module _ (v : View) (o t : ℕ) (x : Content) (may : MayWrite v o) (is : (known_
   known_kind = sym (ap kind_of is) ∙ kind_known v o may.mine may.possible
 
   pub known_use : (known_state o v).table ≡ use_of t (known_state o v).table.fill
-  known_use = let e = class_known v.shape.texts (held_words o v) (known_state o v) t (held_stands v o may.low may.possible may.mine (may.quiet o)) names in let none = known_unsplit v o may.mine may.possible in λ d. record { class = e d; fill = (known_state o v).table.fill; keys = none d }
+  known_use = let e = class_known v.shape.texts (held_unboxed o v) (known_state o v) t (held_stands v o may.low may.possible may.mine (may.quiet o)) names in let none = known_unsplit v o may.mine may.possible in λ d. record { class = e d; fill = (known_state o v).table.fill; keys = none d }
 
-  pub known_says : StandsAs v.shape.texts (held_words o v).block (0 ∷ 0 ∷ (held_words o v).table) (use_of t (known_state o v).table.fill) x
-  known_says = let e = known_use in subst (λ (z : TableUse × Content). StandsAs v.shape.texts (held_words o v).block (0 ∷ 0 ∷ (held_words o v).table) z.0 z.1) (λ d. (e d, is d)) (held_stands v o may.low may.possible may.mine (may.quiet o))
+  pub known_says : StandsAs v.shape.texts (held_unboxed o v).block (0 ∷ 0 ∷ (held_unboxed o v).table) (use_of t (known_state o v).table.fill) x
+  known_says = let e = known_use in subst (λ (z : TableUse × Content). StandsAs v.shape.texts (held_unboxed o v).block (0 ∷ 0 ∷ (held_unboxed o v).table) z.0 z.1) (λ d. (e d, is d)) (held_stands v o may.low may.possible may.mine (may.quiet o))
 
-  pub known_shut : Shut (version_at (kind_of x) (class_of t)) (rows (kind_of x) (class_of t)) (held_words o v).table
-  known_shut = subst (λ (z : Kind). Shut (version_at z (class_of t)) (rows z (class_of t)) (held_words o v).table) (sym known_kind) (held_shut v o t may.low may.possible may.mine (may.quiet o) names)
+  pub known_shut : Shut (version_at (kind_of x) (class_of t)) (rows (kind_of x) (class_of t)) (held_unboxed o v).table
+  known_shut =
+      let kd : Kind = kind_in v.shape.starts o in
+      let box : ℕ → ℕ → ℕ = λ b i. known_box_word v.shape b i v.log in
+      let raw = held_shut v o t may.low may.possible may.mine (may.quiet o) names in
+      let read = read_shut box kd (class_of t) (held_words o v).table raw in
+      let held : Shut (version_at kd (class_of t)) (rows kd (class_of t)) (held_unboxed o v).table = subst (λ (r : ℕ). Shut (version_at kd (class_of t)) (rows kd (class_of t)) (unboxed_table box kd r (held_words o v).table)) (sym names) read in
+      subst (λ (z : Kind). Shut (version_at z (class_of t)) (rows z (class_of t)) (held_unboxed o v).table) (sym known_kind) held
 
 -- in each history that agrees with what it knows
 module _ (v : View) (o : ℕ) (x : Content) (low : o < container_count v.shape) (mine : has_lock o v.log ≡ true) (is : (known_state o v).content ≡ x) (calls : List Call) (agree : AgreesWith v (stored_newest v.shape.starts calls)) where

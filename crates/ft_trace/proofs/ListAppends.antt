@@ -21,6 +21,7 @@ use Rattle.ft_layout.specs.Words.{FitsStored}
 use Rattle.ft_layout.specs.WordChanges.{ChangesItem, SaysStored}
 use Rattle.ft_layout.specs.Containers.{class_mask, IsBlock, IsListWords}
 use Rattle.ft_layout.proofs.Powers.{slots_range}
+use Rattle.ft_trace.specs.EntryWrites.{MayStandIn}
 use Rattle.ft_trace.specs.declared.Shape.{Shape}
 use Rattle.ft_trace.specs.declared.Snap.{Snap}
 use Rattle.ft_trace.specs.declared.View.{View}
@@ -29,7 +30,7 @@ use Rattle.ft_trace.specs.Pictures.{root_in, item_offset, item_field}
 use Rattle.ft_trace.specs.ItemWords.{value_words, words_at}
 use Rattle.ft_trace.specs.Kinds.{rows, version_at}
 use Rattle.ft_trace.specs.OddVersions.{Shut}
-use Rattle.ft_trace.specs.Holds.{held_words, known_state, AgreesWith}
+use Rattle.ft_trace.specs.Holds.{held_unboxed, known_state, AgreesWith}
 use Rattle.ft_trace.specs.Traces.{IsReachable}
 use Rattle.ft_trace.specs.Grants.{MayWrite}
 use Rattle.ft_trace.specs.WholeWrites.{WholeWrite, at_commit, at_end, after_write_of}
@@ -58,7 +59,7 @@ get_else [] value (suc q) ne = refl
 get_else (x ∷ xs) value zero ne = refl
 get_else (x ∷ xs) value (suc q) ne = get_else xs value q (λ e. ne (ap suc e))
 
-module _ (versions : VersionsChangeNothing) (one : PutsChangeOneItem) (follow : WordsFollowAnAppend) (v : View) (o t : ℕ) (value : Value) (values : List Value) (may : MayWrite v o) (is_list : (known_state o v).content ≡ content.List values) (names : root_in (held_words o v) ≡ suc t) (room : length values < slots (class_of t)) (fits : FitsStored (Plain value)) where
+module _ (versions : VersionsChangeNothing) (one : PutsChangeOneItem) (follow : WordsFollowAnAppend) (v : View) (o t : ℕ) (box : Option ℕ) (value : Value) (values : List Value) (may : MayWrite v o) (is_list : (known_state o v).content ≡ content.List values) (names : root_in (held_unboxed o v) ≡ suc t) (room : length values < slots (class_of t)) (fits : FitsStored (Plain value)) (stands : MayStandIn v box value) where
   abbrev n : Shape
   n = v.shape
 
@@ -66,10 +67,10 @@ module _ (versions : VersionsChangeNothing) (one : PutsChangeOneItem) (follow : 
   count = length values
 
   abbrev ws : List ℕ
-  ws = (held_words o v).table
+  ws = (held_unboxed o v).table
 
   abbrev old : List ℕ
-  old = (held_words o v).block
+  old = (held_unboxed o v).block
 
   abbrev b : List ℕ
   b = slice_set old 1 (count + 1)
@@ -81,7 +82,7 @@ module _ (versions : VersionsChangeNothing) (one : PutsChangeOneItem) (follow : 
   called = call.List o (list.Append value)
 
   abbrev write : WholeWrite
-  write = list_append_write v o count value
+  write = list_append_write v o count box value
 
   abbrev c : ℕ
   c = class_of t
@@ -190,7 +191,8 @@ module _ (versions : VersionsChangeNothing) (one : PutsChangeOneItem) (follow : 
       (record {
         called = record { of = refl; wrote = refl; fits = fits; locks = one_locked o v.log may.mine; replied = λ r e. inr e; declared = λ world one. record { one = one; both = tt; room = tt } };
         root = tt;
-        early = ((omega arith, omega arith), item_early t class_is b ws values news count value names_now long room shut same here short);
+        early = ((omega arith, omega arith), item_early t class_is b ws values news count value names_now long room shut same here short box);
+        boxes = (stands, tt);
         names = names_now;
         clear = item_clear t class_is b ws values news count value names_now long room shut same here short (other_words values count value fits (λ any inside. absurd (omega (arith, inside))) (λ some. let e : None ≡ Some value = sym (none_at values count (omega arith)) ∙ some in absurd (cc)));
         late = item_late t class_is b ws values news count value names_now long room shut same here short;
@@ -201,4 +203,4 @@ module _ (versions : VersionsChangeNothing) (one : PutsChangeOneItem) (follow : 
       })
 
 pub items_may_be_appended : VersionsChangeNothing → PutsChangeOneItem → WordsFollowAnAppend → ItemsMayBeAppended
-items_may_be_appended versions one follow v o t value values may is_list names room fits = append_possible versions one follow v o t value values may is_list names room fits
+items_may_be_appended versions one follow v o t box value values may is_list names room fits stands = append_possible versions one follow v o t box value values may is_list names room fits stands

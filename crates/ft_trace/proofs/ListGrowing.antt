@@ -26,12 +26,11 @@ use Rattle.ft_trace.specs.Addresses.{class_of, slots, size}
 use Rattle.ft_trace.specs.Pictures.{item_offset, item_field}
 use Rattle.ft_trace.specs.ItemWords.{ItemSound, ItemClear, value_words, words_at, said_at, OpensChangedItems}
 use Rattle.ft_trace.specs.OddVersions.{Shut}
-use Rattle.ft_trace.specs.Holds.{in_hand, held_words, known_state, AgreesWith}
+use Rattle.ft_trace.specs.Holds.{held_unboxed, known_state, hand_unboxed, AgreesWith}
 use Rattle.ft_trace.specs.Traces.{IsReachable}
 use Rattle.ft_trace.specs.WholeWrites.{to_table, with_root_put, MayBegin, to_block, MayPuts, WholeWrite, at_commit, at_end, after_write_of}
 use Rattle.ft_trace.specs.ListGrowWrites.{list_grow_write, HasListGrown, ListsMayGrow}
 use Rattle.ft_trace.proofs.ByKind.{items_fit}
-use Rattle.ft_trace.proofs.Pieces.{table_long}
 use Rattle.ft_trace.proofs.Known.{after_header}
 use Rattle.ft_trace.proofs.ItemPuts.{VersionsChangeNothing, item_close, items_says, other_words, none_at}
 use Rattle.ft_trace.proofs.ListAppends.{get_else, get_last}
@@ -40,9 +39,10 @@ use mathlib.Core.Logic.{dite}
 use native.Mathlib.Decide.{ℕ_discrete}
 use Rattle.ft_layout.specs.Tables.{IsListTable}
 use Rattle.ft_layout.specs.Tables as layout
-use Rattle.ft_trace.specs.Acts.{mem}
 use Rattle.ft_trace.proofs.KnownContents.{use_of, in_tables, content_there, table_there, content_left}
 use Rattle.ft_trace.proofs.WriteFacts.{replaces, facts_suffice}
+use Rattle.ft_trace.proofs.Known.{hand_is_long}
+use Rattle.ft_trace.proofs.ValuePlaces.{item_far}
 
 module _ (versions : VersionsChangeNothing) (v : View) (o t : ℕ) (value : Value) (values : List Value) (begin : MayBegin v o) (is_list : (known_state o v).content ≡ content.List values) (has : HasListGrown v o t value values) where
   abbrev k : Shape
@@ -58,7 +58,7 @@ module _ (versions : VersionsChangeNothing) (v : View) (o t : ℕ) (value : Valu
   p = length values
 
   abbrev zs : List ℕ
-  zs = in_hand t v
+  zs = hand_unboxed o t v
 
   abbrev news : List Value
   news = values ++ value ∷ []
@@ -76,7 +76,7 @@ module _ (versions : VersionsChangeNothing) (v : View) (o t : ℕ) (value : Valu
   class_is = has.table.0
 
   long : length zs ≡ size c
-  long = table_long k t (mem k v.log)
+  long = hand_is_long v o t
 
   longer : length news ≡ p + 1
   longer = length_push values value
@@ -122,11 +122,11 @@ module _ (versions : VersionsChangeNothing) (v : View) (o t : ℕ) (value : Valu
 
   names_now : slice_index block 0 ≡ suc t
   names_now =
-      let b0 = slice_set (held_words o v).block 0 (suc t) in
+      let b0 = slice_set (held_unboxed o v).block 0 (suc t) in
       let s = has.words.head.size in
       let a = length-set b0 1 (p + 1) in
-      let d = length-set (held_words o v).block 0 (suc t) in
-      get_or-set_other b0 1 0 (p + 1) 0 (λ e. absurd (omega (arith, e))) ∙ get_or-set_same (held_words o v).block 0 (suc t) 0 (omega (arith, s, a, d))
+      let d = length-set (held_unboxed o v).block 0 (suc t) in
+      get_or-set_other b0 1 0 (p + 1) 0 (λ e. absurd (omega (arith, e))) ∙ get_or-set_same (held_unboxed o v).block 0 (suc t) 0 (omega (arith, s, a, d))
 
   early : (any : Kind) (d : Content) → MayPuts any t d false (with_root_put v o (Some (suc t))) (to_block 1 (p + 1) ∷ [])
   early any d = ((omega arith, omega arith), tt)
@@ -136,7 +136,7 @@ module _ (versions : VersionsChangeNothing) (v : View) (o t : ℕ) (value : Valu
       let one = has.open_item in
       let l = long in
       let i = inside in
-      ((names_now, omega (arith, i, l), item_close n zs news p 2 (omega (arith, one)) (says p room), record { before = λ q less at odd. absurd (omega (arith, odd)); later = λ q less at two. refl }), tt)
+      ((names_now, omega (arith, i, l), item_close n zs news p 2 (omega (arith, one)) (says p room), record { before = λ q less at odd. absurd (omega (arith, odd)); later = λ q less at two. refl }, item_far c p), tt)
 
   ends : IsListWords block (0 ∷ 0 ∷ (at_end v o write).table) (Some c) news
   ends = record {
@@ -186,8 +186,9 @@ module _ (versions : VersionsChangeNothing) (v : View) (o t : ℕ) (value : Valu
       facts_suffice v o t (content.List values) (content.List news) (use_of t 0) write begin is_list
       (record {
         called = record { of = refl; wrote = refl; fits = has.fits; locks = one_locked o v.log begin.mine; replied = λ r e. inr e; declared = λ world one. record { one = one; both = tt; room = tt } };
-        root = replaces v o t (content.List values) called begin is_list has.table has.fresh sound young;
+        root = replaces v o t (content.List values) called begin is_list has.table has.fresh sound young has.references;
         early = early kind.List (content.List values);
+        boxes = tt;
         names = names_now;
         clear = clear;
         late = late;

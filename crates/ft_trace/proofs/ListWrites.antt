@@ -21,6 +21,7 @@ use Rattle.ft_layout.specs.Words.{FitsStored}
 use Rattle.ft_layout.specs.WordChanges.{ChangesItem, SaysStored}
 use Rattle.ft_layout.specs.Containers.{IsListWords}
 use Rattle.ft_layout.proofs.Powers.{slots_range}
+use Rattle.ft_trace.specs.EntryWrites.{MayStandIn}
 use Rattle.ft_trace.specs.declared.Shape.{Shape}
 use Rattle.ft_trace.specs.declared.Snap.{Snap}
 use Rattle.ft_trace.specs.declared.View.{View}
@@ -29,7 +30,7 @@ use Rattle.ft_trace.specs.Pictures.{root_in, item_offset, item_field}
 use Rattle.ft_trace.specs.ItemWords.{value_words, words_at}
 use Rattle.ft_trace.specs.Kinds.{rows, version_at}
 use Rattle.ft_trace.specs.OddVersions.{Shut}
-use Rattle.ft_trace.specs.Holds.{held_words, known_state, AgreesWith}
+use Rattle.ft_trace.specs.Holds.{held_unboxed, known_state, AgreesWith}
 use Rattle.ft_trace.specs.Traces.{IsReachable}
 use Rattle.ft_trace.specs.Grants.{MayWrite}
 use Rattle.ft_trace.specs.WholeWrites.{WholeWrite, at_commit, at_end, after_write_of, MayBegin}
@@ -45,7 +46,7 @@ abbrev pub WordsFollowAPut : Type 0
 WordsFollowAPut = (block words new : List ℕ) (class : ℕ) (values : List Value) (place : ℕ) (value : Value) → IsListWords block words (Some class) values → place < length values → ChangesItem place words new → SaysStored new place (Plain value) → IsListWords block new (Some class) (slice_set values place value)
 
 pub may_begin : (v : View) (o : ℕ) → MayWrite v o → MayBegin v o
-may_begin v o may = record { live = may.live; possible = may.possible; few = may.few; low = may.low; mine = may.mine; quiet = may.quiet; spare = may.spare; room = may.room }
+may_begin v o may = record { live = may.live; possible = may.possible; few = may.few; low = may.low; mine = may.mine; quiet = may.quiet; spare = may.spare; room = may.room; few_references = may.few_references }
 
 get_set_same : (values : List Value) (p : ℕ) (value : Value) → p < length values → slice_get (slice_set values p value) p ≡ Some value
 get_set_same [] p value low = absurd (omega arith)
@@ -60,14 +61,14 @@ get_set_other (x ∷ xs) (suc p) zero value ne = refl
 get_set_other (x ∷ xs) (suc p) (suc q) value ne = get_set_other xs p q value (λ e. ne (ap suc e))
 
 -- what a pass with the lock of a list with a table knows of it
-module _ (v : View) (o t : ℕ) (values : List Value) (may : MayWrite v o) (is_list : (known_state o v).content ≡ content.List values) (names : root_in (held_words o v) ≡ suc t) where
+module _ (v : View) (o t : ℕ) (values : List Value) (may : MayWrite v o) (is_list : (known_state o v).content ≡ content.List values) (names : root_in (held_unboxed o v) ≡ suc t) where
   abbrev k : Shape
   k = v.shape
 
-  pub list_says : IsListWords (held_words o v).block (0 ∷ 0 ∷ (held_words o v).table) (Some (class_of t)) values × ((known_state o v).table.fill ≡ 0)
+  pub list_says : IsListWords (held_unboxed o v).block (0 ∷ 0 ∷ (held_unboxed o v).table) (Some (class_of t)) values × ((known_state o v).table.fill ≡ 0)
   list_says = known_says v o t (content.List values) may is_list names
 
-  pub list_shut : Shut (version_at kind.List (class_of t)) (rows kind.List (class_of t)) (held_words o v).table
+  pub list_shut : Shut (version_at kind.List (class_of t)) (rows kind.List (class_of t)) (held_unboxed o v).table
   list_shut = known_shut v o t (content.List values) may is_list names
 
   pub slots_fit : length values ≤ slots (class_of t)
@@ -83,15 +84,15 @@ module _ (v : View) (o t : ℕ) (values : List Value) (may : MayWrite v o) (is_l
     list_is = ap list_of (content_there v o (content.List values) may.low may.mine is_list calls agree (content.List []))
 
 -- l[i] = v
-module _ (versions : VersionsChangeNothing) (one : PutsChangeOneItem) (follow : WordsFollowAPut) (v : View) (o t place : ℕ) (index : ℤ) (value : Value) (values : List Value) (may : MayWrite v o) (is_list : (known_state o v).content ≡ content.List values) (names : root_in (held_words o v) ≡ suc t) (means : index_in (length values) index ≡ Some place) (low : place < length values) (fits : FitsStored (Plain value)) (differs : slice_get values place ≢ Some value) where
+module _ (versions : VersionsChangeNothing) (one : PutsChangeOneItem) (follow : WordsFollowAPut) (v : View) (o t place : ℕ) (index : ℤ) (box : Option ℕ) (value : Value) (values : List Value) (may : MayWrite v o) (is_list : (known_state o v).content ≡ content.List values) (names : root_in (held_unboxed o v) ≡ suc t) (means : index_in (length values) index ≡ Some place) (low : place < length values) (fits : FitsStored (Plain value)) (differs : slice_get values place ≢ Some value) (stands : MayStandIn v box value) where
   abbrev n : Shape
   n = v.shape
 
   abbrev ws : List ℕ
-  ws = (held_words o v).table
+  ws = (held_unboxed o v).table
 
   abbrev b : List ℕ
-  b = (held_words o v).block
+  b = (held_unboxed o v).block
 
   abbrev news : List Value
   news = slice_set values place value
@@ -100,7 +101,7 @@ module _ (versions : VersionsChangeNothing) (one : PutsChangeOneItem) (follow : 
   called = call.List o (list.Set index value)
 
   abbrev write : WholeWrite
-  write = list_set_write v o place index value
+  write = list_set_write v o place index box value
 
   abbrev c : ℕ
   c = class_of t
@@ -152,7 +153,8 @@ module _ (versions : VersionsChangeNothing) (one : PutsChangeOneItem) (follow : 
       (record {
         called = record { of = refl; wrote = refl; fits = fits; locks = one_locked o v.log may.mine; replied = λ r e. inr e; declared = λ world one. record { one = one; both = tt; room = tt } };
         root = tt;
-        early = item_early t class_is b ws values news place value names long in_table shut same here short;
+        early = item_early t class_is b ws values news place value names long in_table shut same here short box;
+        boxes = (stands, tt);
         names = names;
         clear = item_clear t class_is b ws values news place value names long in_table shut same here short (other_words values place value fits (λ any inside. (says.0.table.items place any inside).fits) differs);
         late = item_late t class_is b ws values news place value names long in_table shut same here short;
@@ -163,4 +165,4 @@ module _ (versions : VersionsChangeNothing) (one : PutsChangeOneItem) (follow : 
       })
 
 pub items_may_be_put : VersionsChangeNothing → PutsChangeOneItem → WordsFollowAPut → ItemsMayBePut
-items_may_be_put versions one follow v o t place index value values may is_list names means low fits differs = set_possible versions one follow v o t place index value values may is_list names means low fits differs
+items_may_be_put versions one follow v o t place index box value values may is_list names means low fits differs stands = set_possible versions one follow v o t place index box value values may is_list names means low fits differs stands

@@ -29,16 +29,21 @@ use Rattle.ft_model.specs.TableUses.{StoredWorld, stored_newest}
 use Rattle.ft_layout.specs.declared.slot.Stored.TheVariants.{Empty, Plain}
 use Rattle.ft_layout.specs.Words.{FitsKey, IsStored, FitsStored, stored_kind, stored_payload}
 use Rattle.ft_trace.specs.declared.Act.{Act}
-use Rattle.ft_trace.specs.declared.Act.TheVariants.{Commit}
+use Rattle.ft_trace.specs.declared.Act.TheVariants.{Commit, ReadTable, ReadBox}
 use Rattle.ft_trace.specs.declared.Shape.{Shape}
 use Rattle.ft_trace.specs.declared.View.{View}
-use Rattle.ft_trace.specs.Addresses.{container_count, class_of}
+use Rattle.ft_trace.specs.Addresses.{container_count, class_of, slots}
+use Rattle.ft_trace.specs.Pictures.{entry_offset, item_offset}
+use Rattle.ft_trace.specs.LoggedReads.{Among}
+use Rattle.ft_trace.specs.LoggedLookUps.{IsReadInPlace, IsReadAsBox, IsReadAt}
 use Rattle.ft_trace.specs.FitCalls.{FitsValue, FitsContent}
 use Rattle.ft_trace.specs.ItemWords.{value_words, words_at}
 use Rattle.ft_trace.specs.Kinds.{is_key, pair_words, element_words, under, rows, IsKeyed, IsItems}
 use Rattle.ft_trace.specs.ContainerStates.{container_after, state_at, kind_in, first_writes, reply_in}
 use Rattle.ft_trace.specs.Traces.{Event, did, forked, joined, sent, history, writes_of, Valid}
-use Rattle.ft_trace.specs.LookReplies.{key_reply, item_reply, DictReplies, stored_at, DictHitsAreReplied, SetHitsAreReplied, MissesAreReplied, ItemsAreReplied, PastItemsAreReplied}
+use Rattle.ft_trace.specs.LookReplies.{key_reply, item_reply, DictReplies, stored_at, DictHitsAreReplied, SetHitsAreReplied, MissesAreReplied, ItemsAreReplied, PastItemsAreReplied, IsValueRead, IsItemRead}
+use Rattle.ft_trace.specs.HeldReads.{IsEntryReadHeld, IsItemReadHeld}
+use Rattle.ft_trace.proofs.HeldReads.{held_hits_are_right, held_items_are_right}
 use Rattle.ft_trace.proofs.FitCalls.{contents_fit}
 use Rattle.ft_trace.proofs.ItemPuts.{none_at}
 use Rattle.ft_trace.proofs.Known.{at_any, kind_then}
@@ -259,6 +264,12 @@ keyed_set is = subst IsKeyed (sym is) tt
 listed : {a : Kind} → a ≡ kind.List → IsItems a
 listed is = subst IsItems (sym is) tt
 
+-- the two words of a value, however it was read
+read_words : (t kind_at payload_at : ℕ) (mid : List Act) (Is : ℕ → ℕ → Type 0) → ((f : ℕ) → Among (ReadTable t kind_at f) mid → IsReadInPlace t kind_at mid → Is 0 f) → ((f : ℕ) → Among (ReadTable t payload_at f) mid → IsReadInPlace t kind_at mid → Is 1 f)
+    → ((b f : ℕ) → IsReadAsBox t kind_at payload_at b mid → (Among (ReadBox b 1 f) mid → Is 0 f) × (Among (ReadBox b 2 f) mid → Is 1 f)) → (kind payload : ℕ) → IsReadAt t kind_at payload_at kind payload mid → Is 0 kind × Is 1 payload
+read_words t kind_at payload_at mid Is one two boxed kind payload (inl r) = (one kind r.1 r.0, two payload r.2 r.0)
+read_words t kind_at payload_at mid Is one two boxed kind payload (inr r) = ((boxed r.0 kind r.1).0 r.2, (boxed r.0 payload r.1).1 r.3)
+
 pub dict_hits_are_replied : DictHitsAreReplied
 dict_hits_are_replied k es valid o t place key n low is fits small j u at h =
     let r = hits_are_right k es valid o t place key n low (keyed_dict is) (subst (λ (z : Kind). place < rows z (class_of t)) (sym is) small) j u at h in
@@ -270,7 +281,18 @@ dict_hits_are_replied k es valid o t place key n low is fits small j u at h =
     let p = there dict key fits each some_words in (
       (replies (stored_at k es n) o key (Some p.0.value) (ap (option_map (λ (pair : DictPair). pair.value)) p.1)).has,
       λ kind payload read.
-          let v = value_there dict key fits each some_words kind payload (sym (word 0) ∙ r.2 0 kind (omega arith) read.0) (sym (word 1) ∙ r.2 1 payload (omega arith) read.1) in
+          let small_as : place < rows (kind_in k.starts o) (class_of t) = subst (λ (z : Kind). place < rows z (class_of t)) (sym is) small in
+          let Word : ℕ → ℕ → Type 0 = λ w f. slice_index (under (container_after k.starts (first_writes n (history es)) o).content key) w ≡ f in
+          let two : Word 0 kind × Word 1 payload =
+          ⊎_elim
+          (λ (among : IsValueRead t place kind payload h.mid). read_words t (entry_offset (slots (class_of t)) place 4) (entry_offset (slots (class_of t)) place 5) h.mid Word
+          (λ f m in_place. r.2 0 f (omega arith) m (inr in_place)) (λ f m in_place. r.2 1 f (omega arith) m (inr in_place)) r.3 kind payload among)
+          (λ (held : IsEntryReadHeld k u.log o t place key n h kind payload). (
+            held_hits_are_right k es valid o t place key n low (keyed_dict is) small_as j u at h held.0 1 kind held.1 (inl refl) held.2,
+            held_hits_are_right k es valid o t place key n low (keyed_dict is) small_as j u at h held.0 2 payload held.1 (inr refl) held.3,
+          ))
+          read in
+          let v = value_there dict key fits each some_words kind payload (sym (word 0) ∙ two.0) (sym (word 1) ∙ two.1) in
           (v.0, v.1, replies (stored_at k es n) o key (Some v.0) v.2),
     )
 
@@ -313,11 +335,22 @@ items_are_replied k es valid o t place n low is small j u at h kind payload read
     let stored = stored_at k es n in
     let items = list_at stored.world o in
     let r = items_are_right k es valid o t place n low (listed is) small j u at h in
+    let Word : ℕ → ℕ → Type 0 = λ w f. slice_index (words_at (list_of (container_after k.starts (first_writes n (history es)) o).content) place) w ≡ f in
+    let small_as : place < slots (class_of t) = small in
+    let two : Word 0 kind × Word 1 payload =
+    ⊎_elim
+    (λ (among : IsItemRead t place kind payload h.mid). read_words t (item_offset place 1) (item_offset place 2) h.mid Word
+    (λ f m in_place. r.1 0 f (omega arith) m in_place) (λ f m in_place. r.1 1 f (omega arith) m in_place) r.2 kind payload among)
+    (λ (held : IsItemReadHeld k u.log o t place n h kind payload). (
+      held_items_are_right k es valid o t place n low (listed is) small_as j u at h held.0 1 kind held.1 (inl refl) held.2,
+      held_items_are_right k es valid o t place n low (listed is) small_as j u at h held.0 2 payload held.1 (inr refl) held.3,
+    ))
+    read in
     let fits : All FitsValue items = list_fits (container_after k.starts (first_writes n (history es)) o).content (fit k es valid o n low) in
     ⊎_elim
     (λ some_one. inl (some_one.0, some_one.1, item_in stored o place (Some some_one.0) some_one.2))
     (λ none. inr (none.0, item_in stored o place None none.1))
-    (item_says items place kind payload fits (slice_get items place) refl (r.1 0 kind (omega arith) read.0) (r.1 1 payload (omega arith) read.1))
+    (item_says items place kind payload fits (slice_get items place) refl two.0 two.1)
 
 pub past_items_are_replied : PastItemsAreReplied
 past_items_are_replied k es valid o index n low is j u at (inl p) =

@@ -15,6 +15,7 @@ use Rattle.ft_trace.specs.Acts.{is_writing, is_writing_next, has_committed, has_
 use Rattle.ft_trace.specs.ContainerStates.{kind_in}
 use Rattle.ft_trace.specs.Kinds.{rows, version_at}
 use Rattle.ft_trace.specs.Addresses.{container_count}
+use Rattle.ft_trace.proofs.ReadTables.{raw_careful_for}
 use Rattle.ft_trace.proofs.ByKind.{as_version, row_low}
 use Rattle.ft_trace.specs.Traces.{Event, did, forked, joined, sent, run, writes_of, history, CarefulFor, TimelyFor, Valid}
 use Rattle.ft_trace.proofs.Sizes.{set_views, one_more}
@@ -97,7 +98,7 @@ lows k (did id v a ∷ es) valid o low t e =
     let is : zs ≡ slice_set ws i x = put_tab k es id v q t i x table may.2 in
     let long = table_long k t (run k es).words in
     let else : (p : ℕ) → i ≢ V k o t p → slice_index zs (V k o t p) ≡ slice_index ws (V k o t p) = λ p ne. ap (λ (z : List ℕ). slice_index z (V k o t p)) is ∙ get_or-set_other ws i (V k o t p) x 0 (λ e. ne (sym e)) in
-    let there : (p : ℕ) → p < R k o t → i ≡ V k o t p → (slice_index zs (V k o t p) ≡ x) × (x ≡ slice_index ws (V k o t p) + 1) = λ p less e. (ap (λ (z : List ℕ). slice_index z (V k o t p)) is ∙ (ap (λ (z : ℕ). slice_index (slice_set ws z x) (V k o t p)) e ∙ get_or-set_same ws (V k o t p) x 0 (subst (λ (z : ℕ). V k o t p < z) (sym long) (row_low (kind_in k.starts o) (class_of t) p table.0 less))), as_version (kind_in k.starts o) (class_of t) ws (content k es o) i x care p less e) in
+    let there : (p : ℕ) → p < R k o t → i ≡ V k o t p → (slice_index zs (V k o t p) ≡ x) × (x ≡ slice_index ws (V k o t p) + 1) = λ p less e. (ap (λ (z : List ℕ). slice_index z (V k o t p)) is ∙ (ap (λ (z : ℕ). slice_index (slice_set ws z x) (V k o t p)) e ∙ get_or-set_same ws (V k o t p) x 0 (subst (λ (z : ℕ). V k o t p < z) (sym long) (row_low (kind_in k.starts o) (class_of t) p table.0 less))), as_version (kind_in k.starts o) (class_of t) ws i x (raw_careful_for k es o t (content k es o) i x care) p less e) in
     record {
       even = λ p less two.
           dite (ℕ_discrete i (V k o t p))

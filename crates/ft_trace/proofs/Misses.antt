@@ -24,8 +24,8 @@ use Rattle.ft_trace.specs.LoggedLookUps.{OtherKind, OtherPayload, Dead, Beyond, 
 use Rattle.ft_trace.specs.Traces.{Event, run, history, Valid}
 use Rattle.ft_trace.proofs.Contents.{count, tab}
 use Rattle.ft_trace.proofs.Carefuls.{kind_is, later_used, later_dead, none_or}
-use Rattle.ft_trace.proofs.ByKind.{keyed_low, keyed_later, keyed_sound}
-use Rattle.ft_trace.proofs.Sounds.{LaterIn, sound_at}
+use Rattle.ft_trace.proofs.ByKind.{keyed_low, keyed_later}
+use Rattle.ft_trace.proofs.Sounds.{LaterIn, sound_named, sound_reached}
 use Rattle.ft_trace.proofs.Spots.{Under, under_trans, stamp_then, Spot, Back, go, Opened, open_window, named_by, found}
 
 -- an entry that was passed on the walk is not one that the key's walk meets
@@ -81,8 +81,7 @@ module _ (k : Shape) (o : ℕ) (key : Key) (t j : ℕ) (low : o < container_coun
     used : entry_field N (tab k kw.spot.es t) place 2 ≢ 0
     used =
         let names = named_by k iw.spot.es iw.spot.valid o t table iw.spot.now (iw.whom ∙ (kw.whom ∙ whom)) in
-        let sound = keyed_sound (kind_in k.starts o) keyed k.texts (class_of t) (tab k iw.spot.es t) (container_after k.starts (history iw.spot.es) o).content (sound_at k iw.spot.es iw.spot.valid o low t names) in
-        later_used N M (tab k iw.spot.es t) (tab k kw.spot.es t) i_later place low_place (sound.named slot place in_table low_place (sym index_read))
+        later_used N M (tab k iw.spot.es t) (tab k kw.spot.es t) i_later place low_place (sound_named k iw.spot.es iw.spot.valid o low keyed t names slot place in_table low_place (sym index_read))
 
     same : place ≡ p
     same =
@@ -173,8 +172,7 @@ absent_at : (k : Shape) (es : List Event) (valid : Valid k es) (o t : ℕ) (key 
     → (Reached (slots (class_of t)) (rows (kind_in k.starts o) (class_of t)) (tab k s.es t) (walk_of (kind_in k.starts o) k.texts (class_of t) key) key → ⊥) → (n ≤ count k es) × (under (container_after k.starts (first_writes n (history es)) o).content key ≡ [])
 absent_at k es valid o t key n fits low keyed table j start rest s below whom is never =
     let names = named_by k s.es s.valid o t table s.now whom in
-    let sound = keyed_sound (kind_in k.starts o) keyed k.texts (class_of t) (tab k s.es t) (container_after k.starts (history s.es) o).content (sound_at k s.es s.valid o low t names) in
-    let none : under (container_after k.starts (history s.es) o).content key ≡ [] = ⊎_elim (λ e. e) (λ there. absurd (never (sound.reached key fits there))) (none_or (under (container_after k.starts (history s.es) o).content key)) in
+    let none : under (container_after k.starts (history s.es) o).content key ≡ [] = ⊎_elim (λ e. e) (λ there. absurd (never (sound_reached k s.es s.valid o low keyed t names key fits there))) (none_or (under (container_after k.starts (history s.es) o).content key)) in
     let c = stamp_then k s.es es s.valid valid below n is in
     (c.0, ap (λ (cs : List Call). under (container_after k.starts cs o).content key) c.1 ∙ none)
 

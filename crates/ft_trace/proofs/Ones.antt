@@ -15,7 +15,8 @@ use Rattle.ft_trace.specs.Addresses.{Word, tables_in, count_of_class, bits, clas
 use Rattle.ft_trace.proofs.Announcing.{fits}
 use Rattle.ft_trace.specs.Acts.{place, word_after}
 use Rattle.ft_trace.specs.Entries.{total}
-use Rattle.ft_trace.specs.Counts.{sum_to, ones, word_bits, taking, giving}
+use Rattle.ft_trace.specs.Sums.{sum_to}
+use Rattle.ft_trace.specs.Counts.{ones, word_bits, taking, giving}
 use Rattle.ft_trace.specs.Traces.{Event, did, forked, joined, sent, run, word, history, May, Valid}
 use Rattle.ft_trace.proofs.Addresses.{bt_low, num_is, class_of_number, number_of_number, bits_first}
 use Rattle.ft_trace.proofs.Bits.{off_else, on_else}

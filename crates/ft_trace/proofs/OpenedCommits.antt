@@ -22,6 +22,7 @@ use Rattle.ft_trace.specs.StoppedLookUps.{IsOpenAs}
 use Rattle.ft_trace.specs.Traces.{Event, did, forked, joined, sent, run, history, May, CarefulFor, TimelyFor, Valid}
 use Rattle.ft_trace.proofs.Cases.{miss, off}
 use Rattle.ft_trace.proofs.Ages.{ages_one}
+use Rattle.ft_trace.proofs.ReadTables.{raw_careful_for}
 use Rattle.ft_trace.proofs.ByKind.{as_version, row_low}
 use Rattle.ft_trace.proofs.Contents.{tab}
 use Rattle.ft_trace.proofs.EarlierMoments.{valid_rest}
@@ -128,7 +129,7 @@ module _ (k : Shape) (o t p : ℕ) (low : o < container_count k) (small : p < ro
                 let is = put_tab k es id v q t i y table may.2 in
                 dite (ℕ_discrete i V)
                 (λ (e : i ≡ V).
-                let up : y ≡ slice_index ws V + 1 = as_version (kind_in k.starts o) (class_of t) ws (content k es o) i y care p small e in
+                let up : y ≡ slice_index ws V + 1 = as_version (kind_in k.starts o) (class_of t) ws i y (raw_careful_for k es o t (content k es o) i y care) p small e in
                 let was = opened.open_here.1 in
                 let one = opened.open_here.2 in
                 absurd (true≢false (sym (timely.later p small e (omega (arith, up, was, one))) ∙ (writer_is ok.0 ok.1.0 writing).1)))

@@ -1,28 +1,37 @@
 -- What was read between two equal even loads of a version is the container's content at each load of the counter between them, also where tables move.
-use Rattle.std.proofs.Common.{◌≡◌, ℕ, suc, ◌%◌, ◌<◌, ◌≤◌, List, ◌∷◌, ◌++◌, sym, ap, ◌∙◌, subst, arith, append_assoc}
+use Rattle.std.proofs.Common.{◌≡◌, ◌≢◌, ◌⊎◌, ℕ, suc, ◌%◌, ◌<◌, ◌≤◌, List, ◌∷◌, ◌++◌, sym, ap, ◌∙◌, subst, arith, append_assoc}
 use Rattle.std.specs.Prelude.{slice_index}
 use mathlib.Core.Option.{some}
 use lib.ListN.{get_elem?}
 use Rattle.ft_trace.specs.declared.Shape.{Shape}
 use Rattle.ft_trace.specs.declared.View.{View}
 use Rattle.ft_trace.specs.declared.Act.{Act}
-use Rattle.ft_trace.specs.declared.Act.TheVariants.{Version, ReadBlock, ReadRoot, ReadTable, ReadCounter}
+use Rattle.ft_trace.specs.declared.Act.TheVariants.{Version, ReadBlock, ReadRoot, ReadTable, ReadCounter, ReadBox}
 use Rattle.ft_model.specs.declared.call.Call.{Call}
 use Rattle.ft_model.specs.declared.reply.Reply.{Reply}
 use Rattle.ft_model.specs.TableUses.{StoredWorld, stored_newest}
 use Rattle.ft_trace.specs.Addresses.{container_count}
 use Rattle.ft_trace.specs.ContainerStates.{ContainerState, state_at, container_after, kind_in, first_writes, reply_in}
 use Rattle.ft_trace.specs.Pictures.{table_words, inner, ContainerWords, root_of, root_in, picture, Represents}
-use Rattle.ft_trace.specs.LoggedReads.{Between, Among, Agrees, IsNothing, LookedAtOne, LookedAtBoth}
+use Rattle.ft_trace.specs.LoggedReads.{Between, Among, Agrees, AgreesBoxes, IsNothing, LookedAtOne, LookedAtBoth}
 use Rattle.ft_model.specs.Worlds.{kind_of}
 use Rattle.ft_trace.proofs.Known.{kind_then}
 use Rattle.ft_trace.proofs.NoTable.{no_table_stands}
 use Rattle.ft_trace.specs.LoggedLookUps.{Bare}
-use Rattle.ft_trace.specs.Traces.{Event, run, history, Valid}
+use Rattle.ft_trace.specs.Addresses.{box_word, IsBoxName}
+use Rattle.ft_trace.specs.BoxTraces.{references}
+use Rattle.ft_trace.proofs.BoxValues.{box_name, box_there}
+use Rattle.ft_trace.proofs.NamedBoxes.{named_low}
+use Rattle.ft_trace.proofs.PlainPuts.{named_is}
+use Rattle.ft_trace.specs.Boxes.{named_in_root, named_in_container}
+use Rattle.ft_trace.specs.Unboxed.{box_word_in, unboxed}
+use Rattle.ft_trace.proofs.QuietBoxes.{quiet_named}
+use Rattle.ft_trace.specs.Traces.{Event, run, word, history, Valid}
 use Rattle.ft_trace.proofs.Pieces.{block_at, table_at}
 use Rattle.ft_trace.proofs.OddVersions.{version, rises}
 use Rattle.ft_trace.proofs.TablePlaces.{root}
-use Rattle.ft_trace.proofs.Contents.{count, Still, stands, quiet}
+use Rattle.ft_trace.proofs.Contents.{count, Still, quiet}
+use Rattle.ft_trace.proofs.Standing.{stands}
 use Rattle.ft_trace.proofs.EarlierMoments.{Was, was}
 use Rattle.ft_trace.proofs.Spots.{Under, under_trans, stamp_then}
 
@@ -106,11 +115,39 @@ module _ (k : Shape) (es : List Event) (valid : Valid k es) (o : ℕ) (low : o <
         w.tells ∙ (sym (table_at k t (run k w.older).words i small) ∙ (sym (by_inner (root k w.older o) (run k w.older).words t i then_) ∙ ap (λ (x : ContainerWords). slice_index x.table i) (sym s.picture)));
   }
 
+  -- a box that it names is one of the bank
+  names_box : (b : ℕ) → named_in_root b (kind_in k.starts o) (root_in shown) shown.table ≢ 0 → IsBoxName k b
+  names_box b names_it =
+      let n = named_is k o b (run k now).words in
+      let all = named_low k b o (run k now).words low in
+      let some_ : references k b now ≢ 0 = λ z. names_it (omega (arith, n, all, z)) in
+      let up = box_there k b now top.valid some_ in
+      box_name k b now top.valid (λ z. absurd (omega (arith, up, z)))
+
+  -- what was read of it
+  found_in : (b : ℕ) → named_in_root b (kind_in k.starts o) (root_in shown) shown.table ≢ 0 → (i f : ℕ) → (i ≡ 1) ⊎ (i ≡ 2) → Among (ReadBox b i f) mid → f ≡ box_word_in k (run k now).words b i
+  found_in b names_it i f which m =
+      let w = in_now (ReadBox b i f) m in
+      let s = still_now (ReadBox b i f) m in
+      let p = under_now (ReadBox b i f) m in
+      let root_same : root_of k o (run k w.older).words ≡ root_in shown = sym (root_is (run k w.older).words) ∙ ap root_in (sym s.picture) in
+      let n : named_in_container k b o (run k w.older).words ≡ named_in_root b (kind_in k.starts o) (root_in shown) shown.table = λ d. named_in_root b (kind_in k.starts o) (root_same d) (sym s.picture d).table in
+      let even_then : version k w.older o % 2 ≡ 0 = ap (λ (z : ℕ). z % 2) (same (ReadBox b i f) m) ∙ even_now in
+      let q : word k now (box_word b i) ≡ word k w.older (box_word b i) =
+      subst (λ (l : List Event). Valid k l → version k l o ≡ version k w.older o → word k l (box_word b i) ≡ word k w.older (box_word b i)) p.is
+      (λ ok e. quiet_named k w.older o low even_then b i (λ z. names_it (sym n ∙ z)) which p.newer ok e) top.valid (sym (same (ReadBox b i f) m)) in
+      w.tells ∙ sym q
+
+  -- what was read of boxes between them that it names
+  pub agrees_boxes : AgreesBoxes k o mid shown (box_word_in k (run k now).words)
+  agrees_boxes b names_it = (names_box b names_it, found_in b names_it)
+
   -- the optimistic read: what follows from the answers, on whatever words and whatever else is stored, holds of what was stored at the load of the counter
-  pub looked : (P : StoredWorld → Type 0) → ((x : ContainerWords) (t : StoredWorld) → kind_of (state_at t o).content ≡ kind_in k.starts o → Represents k.texts x (state_at t o) → Agrees k o mid x → P t) → (s : ℕ) → Among (ReadCounter s) mid → (s ≤ count k es) × P (stored_newest k.starts (first_writes s (history es)))
+  pub looked : (P : StoredWorld → Type 0) → ((x : ContainerWords) (box : ℕ → ℕ → ℕ) (t : StoredWorld) → kind_of (state_at t o).content ≡ kind_in k.starts o → Represents k.texts (unboxed box (kind_in k.starts o) x) (state_at t o) → Agrees k o mid x → AgreesBoxes k o mid x box → P t) → (s : ℕ) → Among (ReadCounter s) mid → (s ≤ count k es) × P (stored_newest k.starts (first_writes s (history es)))
   looked P gives s st =
       let a = at_stamp s st in
-      (a.0, gives shown (stored_newest k.starts (first_writes s (history es))) (kind_at s st) (subst (Represents k.texts shown) (sym a.1) (stands k now top.valid o low even_now)) agrees)
+      let read : ContainerWords = unboxed (box_word_in k (run k now).words) (kind_in k.starts o) shown in
+      (a.0, gives shown (box_word_in k (run k now).words) (stored_newest k.starts (first_writes s (history es))) (kind_at s st) (subst (Represents k.texts read) (sym a.1) (stands k now top.valid o low even_now)) agrees agrees_boxes)
 
 -- a call may be answered that was looked up so
 pub looked_at : (k : Shape) (es : List Event) (valid : Valid k es) (call : Call) (o : ℕ) → o < container_count k → (j : ℕ) (u : View) → get_elem? (run k es).views j ≡ some u → (r : Reply) (n : ℕ) → LookedAtOne k call o r n u.log → (n ≤ count k es) × (reply_in (stored_newest k.starts (first_writes n (history es))) call ≡ r)
@@ -126,18 +163,21 @@ looked_at_both k es valid call o p low low_too j u at r n h =
     let s = stands k (now k es valid o low j u at h.one h.between.0) (top k es valid o low j u at h.one h.between.0).valid o low (even_now k es valid o low j u at h.one h.between.0) in
     let t = stands k (now k es valid p low_too j u at h.other h.between.1) (top k es valid p low_too j u at h.other h.between.1).valid p low_too (even_now k es valid p low_too j u at h.other h.between.1) in (
       a.0,
-      h.answers (shown k es valid o low j u at h.one h.between.0) (shown k es valid p low_too j u at h.other h.between.1) stored
+      h.answers (shown k es valid o low j u at h.one h.between.0) (shown k es valid p low_too j u at h.other h.between.1)
+          (box_word_in k (run k (now k es valid o low j u at h.one h.between.0)).words) (box_word_in k (run k (now k es valid p low_too j u at h.other h.between.1)).words) stored
           (kind_at k es valid o low j u at h.one h.between.0 n h.stamp.0)
           (kind_at k es valid p low_too j u at h.other h.between.1 n h.stamp.1)
-          (subst (Represents k.texts (shown k es valid o low j u at h.one h.between.0)) (sym a.1) s)
-          (subst (Represents k.texts (shown k es valid p low_too j u at h.other h.between.1)) (sym b.1) t)
+          (subst (Represents k.texts (unboxed (box_word_in k (run k (now k es valid o low j u at h.one h.between.0)).words) (kind_in k.starts o) (shown k es valid o low j u at h.one h.between.0))) (sym a.1) s)
+          (subst (Represents k.texts (unboxed (box_word_in k (run k (now k es valid p low_too j u at h.other h.between.1)).words) (kind_in k.starts p) (shown k es valid p low_too j u at h.other h.between.1))) (sym b.1) t)
           (agrees k es valid o low j u at h.one h.between.0)
-          (agrees k es valid p low_too j u at h.other h.between.1),
+          (agrees k es valid p low_too j u at h.other h.between.1)
+          (agrees_boxes k es valid o low j u at h.one h.between.0)
+          (agrees_boxes k es valid p low_too j u at h.other h.between.1),
     )
 
 -- a root that is 0: there is no table at the counter that was loaded
 pub bare_at : (k : Shape) (es : List Event) (valid : Valid k es) (o n : ℕ) → o < container_count k → (j : ℕ) (u : View) → get_elem? (run k es).views j ≡ some u → Bare u.log o n → (n ≤ count k es) × IsNothing (container_after k.starts (first_writes n (history es)) o)
 bare_at k es valid o n low j u at h =
     looked k es valid o low j u at h.mid h.between (λ t. IsNothing (state_at t o))
-    (λ x t is s a. no_table_stands k.texts x (state_at t o) (sym (a.root 0 h.root)) s)
+    (λ x box t is s a boxes. no_table_stands k.texts (unboxed box (kind_in k.starts o) x) (state_at t o) (sym (a.root 0 h.root)) s)
     n h.stamp

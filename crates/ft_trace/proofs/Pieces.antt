@@ -53,6 +53,10 @@ pub table_long : (k : Shape) (t : ℕ) (ws : List ℕ) → length (table_words k
 unfolding table_words
 table_long k t ws = piece_long ws (at k (cell t 0)) (size (class_of t))
 
+pub block_long : (k : Shape) (o : ℕ) (ws : List ℕ) → length (block_of k o ws) ≡ 6
+unfolding block_of
+block_long k o ws = piece_long ws (at k (block o 0)) 6
+
 block_cell : (k : Shape) (o i : ℕ) → at k (block o 0) + i ≡ at k (block o i)
 block_cell k o i = omega arith
 
@@ -76,7 +80,7 @@ block_zero k o ws zeros = piece_zero ws (at k (block o 0)) 6 (λ i low. ap (λ (
         let rest = piece_zero ws (at + 1) n (λ i low. let e : at + 1 + i ≡ at + suc i = omega arith in ap (λ (z : ℕ). slice_index ws z) e ∙ zeros (suc i) (omega arith)) in
         λ d. here d ∷ rest d
 
-inner_same : (k : Shape) (r : ℕ) (ws zs : List ℕ) → ((t : ℕ) → r ≡ suc t → table_words k t ws ≡ table_words k t zs) → inner k r ws ≡ inner k r zs
+pub inner_same : (k : Shape) (r : ℕ) (ws zs : List ℕ) → ((t : ℕ) → r ≡ suc t → table_words k t ws ≡ table_words k t zs) → inner k r ws ≡ inner k r zs
 inner_same k zero ws zs same = refl
 inner_same k (suc t) ws zs same = same t refl
 

@@ -8,13 +8,14 @@ use Rattle.ft_trace.specs.declared.View.{View}
 use Rattle.ft_trace.specs.Ages.{age, whose}
 use Rattle.ft_trace.proofs.EarlierMoments.{valid_rest}
 use Rattle.ft_trace.specs.Entries.{number_count}
-use Rattle.ft_trace.specs.Pictures.{picture}
 use Rattle.ft_trace.specs.Traces.{run, history}
 use Rattle.ft_trace.specs.TraceLaws.{StoredTablesAreInOrder, WordsLieApart, PairsAreUnderTheirKeys, ElementsAreUnderTheirKeys, OnePassIsAlone, StampsRise, MemoryErrorsAreEarned, LocksNameHolders, VersionsAreOddInWrites, EvenTablesAreShut, NumbersAreOnce, EntriesAreRight, OneHasAllEntries, EvenWordsStand, ZeroRootsHaveNothing, HoldersKnow, TablesAreSomewhere, TablesAreInOnePlace, CountsStand, TablesAreOwed, EmptyClassesAreEarned, AnnouncedNumbersAreLow, FoundTablesAreKept, GivenUpTablesRest, TablesAreSound, TableWordsStay, HitsAreRight, MissesAreRight, BareRootsAreRight, ItemsAreRight, ListsFitTheirTables, LooksAreRight, LooksAtBothAreRight, ChangedRootsAreNew, NumbersHaveRoom, NextSerialsAreLow, CallsAreCounted}
 use Rattle.ft_trace.proofs.Locks.{names, holder, one_holder}
 use Rattle.ft_trace.proofs.OddVersions.{versioned, writer_has, writing_is_odd}
-use Rattle.ft_trace.proofs.Contents.{counted, tab, stands}
+use Rattle.ft_trace.proofs.Contents.{counted, tab}
+use Rattle.ft_trace.proofs.Standing.{stands}
 use Rattle.ft_trace.proofs.Totals.{entries_total, parts_total, total_two}
+use Rattle.ft_trace.specs.Unboxed.{unboxed_picture}
 use Rattle.ft_trace.proofs.Addresses.{in_part, at_apart}
 use Rattle.ft_trace.proofs.Orders.{in_order}
 use Rattle.ft_model.specs.TableUses.{stored_newest}
@@ -36,7 +37,7 @@ use Rattle.ft_trace.proofs.FoundTables.{safe, not_free}
 use Rattle.ft_trace.proofs.Rests.{rests, one_root}
 use Rattle.ft_trace.proofs.Evens.{quiet_shut}
 use Rattle.ft_trace.proofs.NoTable.{no_table_stands}
-use Rattle.ft_trace.proofs.Held.{root_known, words_known, content_known, hand_known}
+use Rattle.ft_trace.proofs.Held.{root_known, words_known, content_known, own_table_known}
 use Rattle.ft_trace.proofs.Sounds.{LaterIn, sound_at, laters}
 use Rattle.ft_trace.proofs.Ones.{words_stand}
 use Rattle.ft_trace.proofs.Owed as owed_in
@@ -90,10 +91,10 @@ pub words_stand_while_versions_are_even : EvenWordsStand
 words_stand_while_versions_are_even = stands
 
 pub zero_roots_have_nothing : ZeroRootsHaveNothing
-zero_roots_have_nothing k es valid o low even none = no_table_stands k.texts (picture k o (run k es).words) _ (block_at k o (run k es).words 0 (omega arith) ∙ none) (stands k es valid o low even)
+zero_roots_have_nothing k es valid o low even none = no_table_stands k.texts (unboxed_picture k o (run k es).words) _ (block_at k o (run k es).words 0 (omega arith) ∙ none) (stands k es valid o low even)
 
 pub holders_know : HoldersKnow
-holders_know v es j knows = (λ o low mine. (words_known v o low mine es j knows, content_known v o mine es j knows), λ t table one. hand_known v t table one es j knows)
+holders_know v es j knows = (λ o low mine. (words_known v o low mine es j knows, content_known v o mine es j knows), λ t table has. own_table_known v t table has es j knows)
 
 pub tables_are_somewhere : TablesAreSomewhere
 tables_are_somewhere k es valid t table =
@@ -148,7 +149,7 @@ table_words_stay k newer older valid o low t names same =
 pub hits_are_right : HitsAreRight
 hits_are_right k es valid o t p key n low keyed small j u at h =
     let r = hits.hit_at k es valid o t p key n low keyed small j u at h in
-    (r.0, (λ none. some_words r.1 none), hits.hit_word k es valid o t p key n low keyed small j u at h)
+    (r.0, (λ none. some_words r.1 none), hits.hit_word k es valid o t p key n low keyed small j u at h, λ b f named. hits.hit_boxed k es valid o t p key n low keyed small j u at h b named f)
   where
     some_words : {x : ℕ} {xs l : List ℕ} → l ≡ x ∷ xs → l ≡ [] → ⊥
     some_words a b = let z = sym a ∙ b in absurd (cc)
@@ -160,7 +161,7 @@ pub bare_roots_are_right : BareRootsAreRight
 bare_roots_are_right = bare_at
 
 pub items_are_right : ItemsAreRight
-items_are_right k es valid o t p n low is small j u at h = ((items.item_hit_at k es valid o t p n low is small j u at h).0, items.item_word k es valid o t p n low is small j u at h)
+items_are_right k es valid o t p n low is small j u at h = ((items.item_hit_at k es valid o t p n low is small j u at h).0, items.item_word k es valid o t p n low is small j u at h, λ b f named. items.item_boxed k es valid o t p n low is small j u at h b named f)
 
 pub lists_fit_their_tables : ListsFitTheirTables
 lists_fit_their_tables k es valid o t n low is j u at h = items.item_past_at k es valid o t n low is j u at h
@@ -181,11 +182,11 @@ pub next_serials_are_low : NextSerialsAreLow
 next_serials_are_low k es valid o = let low = next_low k es valid o in let count = counted k es valid in omega (arith, low, count)
 
 pub lists_may_be_cleared : ListsMayBeCleared
-lists_may_be_cleared v o values m is = clear_possible v o values m.live m.possible m.few m.low m.mine m.quiet m.spare m.none m.room is
+lists_may_be_cleared v o values m is = clear_possible v o values m.live m.possible m.few m.low m.mine m.quiet m.spare m.none m.room m.few_references is
 
 pub cleared_tables_may_be_given_back : ClearedTablesMayBeGivenBack
 cleared_tables_may_be_given_back v o t values m is first one idle names =
-    let a = clear_possible v o values m.live m.possible m.few m.low m.mine m.quiet m.spare m.none m.room is in
+    let a = clear_possible v o values m.live m.possible m.few m.low m.mine m.quiet m.spare m.none m.room m.few_references is in
     let w = after_clear v o a.0 a.1 a.2 a.3 in
     let n = stage t v.log in
     let three : stage t w.log ≡ 3 = miss 0 (suc t) 0 (cond (eqb (root_in (held_words o v)) (suc t)) 3 n) (λ e. omega (arith, e)) ∙ here (root_in (held_words o v)) (suc t) 3 n names in

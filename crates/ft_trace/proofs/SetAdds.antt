@@ -25,10 +25,11 @@ use Rattle.ft_trace.specs.Pictures.{root_in, index_field, entry_offset, entry_fi
 use Rattle.ft_trace.specs.Carefuls.{Careful, Clear}
 use Rattle.ft_trace.specs.Kinds.{under}
 use Rattle.ft_trace.specs.OddVersions.{Shut}
-use Rattle.ft_trace.specs.Holds.{held_words, known_state, AgreesWith}
+use Rattle.ft_trace.specs.Holds.{held_unboxed, known_state, AgreesWith}
 use Rattle.ft_trace.specs.Traces.{IsReachable}
 use Rattle.ft_trace.specs.Grants.{MayWrite}
-use Rattle.ft_trace.specs.WholeWrites.{to_table, MayPut, MayPuts, WholeWrite, at_commit, at_end, after_write_of}
+use Rattle.ft_trace.specs.WholeWrites.{to_table, MayPut, MayPuts, WholeWrite, at_commit, at_end, after_write_of, IsNoValue}
+use Rattle.ft_trace.proofs.ValuePlaces.{set_entry_far, set_slot_far}
 use Rattle.ft_trace.specs.EntryWrites.{entry_closed}
 use Rattle.ft_trace.specs.KeyWrites.{count_puts}
 use Rattle.ft_trace.specs.SetWrites.{element_puts, set_add_write, ElementsMayBeAdded}
@@ -49,8 +50,8 @@ use Rattle.ft_trace.proofs.KeyedWrites.{put_while_open, counts_may_be_put, root_
 use Rattle.ft_trace.proofs.Opened.{set_lacks}
 use Rattle.ft_trace.proofs.FitCalls.{set_fits_words}
 
-module _ (versions : EntryVersionsChangeNothing) (first : FirstEntriesAreElements) (v : View) (o t slot : ℕ) (key : Key) (elements : SetContent) (may : MayWrite v o) (is_set : (known_state o v).content ≡ content.Set elements) (names : root_in (held_words o v) ≡ suc t)
-    (room : (known_state o v).table.fill < set_entries (class_of t)) (in_index : slot < slots (class_of t)) (free : index_field (held_words o v).table slot ≡ 0) (fits : FitsKey key) (missing : has_element elements.elements key ≡ false)
+module _ (versions : EntryVersionsChangeNothing) (first : FirstEntriesAreElements) (v : View) (o t slot : ℕ) (key : Key) (elements : SetContent) (may : MayWrite v o) (is_set : (known_state o v).content ≡ content.Set elements) (names : root_in (held_unboxed o v) ≡ suc t)
+    (room : (known_state o v).table.fill < set_entries (class_of t)) (in_index : slot < slots (class_of t)) (free : index_field (held_unboxed o v).table slot ≡ 0) (fits : FitsKey key) (missing : has_element elements.elements key ≡ false)
     (now : IsSetWords v.shape.texts (at_commit v o (set_add_write v o t slot key elements)).block (0 ∷ 0 ∷ (at_commit v o (set_add_write v o t slot key elements)).table) (Some (class_of t)) ((known_state o v).table.fill + 1) (set_add elements key)) where
   abbrev k : Shape
   k = v.shape
@@ -68,7 +69,7 @@ module _ (versions : EntryVersionsChangeNothing) (first : FirstEntriesAreElement
   p = (known_state o v).table.fill
 
   abbrev ws : List ℕ
-  ws = (held_words o v).table
+  ws = (held_unboxed o v).table
 
   abbrev news : SetContent
   news = set_add elements key
@@ -94,7 +95,7 @@ module _ (versions : EntryVersionsChangeNothing) (first : FirstEntriesAreElement
   at_least : n + 8 * m ≤ length ws
   at_least = set_is_long v o t names
 
-  says : IsSetWords k.texts (held_words o v).block (0 ∷ 0 ∷ ws) (Some c) p elements
+  says : IsSetWords k.texts (held_unboxed o v).block (0 ∷ 0 ∷ ws) (Some c) p elements
   says = known_says v o t (content.Set elements) may is_set names
 
   shut : Shut (λ q. entry_offset n q 0) m ws
@@ -106,7 +107,7 @@ module _ (versions : EntryVersionsChangeNothing) (first : FirstEntriesAreElement
   -- the entry was never used
   none : entry_field n ws p 2 ≡ 0
   none =
-      let fits : set_room (class_mask c) ≡ m = room_is first k.texts (held_words o v).block c p class_is elements ws says in
+      let fits : set_room (class_mask c) ≡ m = room_is first k.texts (held_unboxed o v).block c p class_is elements ws says in
       let filled = says.filled in
       let u = says.table.unused p (omega (arith, filled)) (omega (arith, fits, room)) in
       sym (word_is (λ hash. set_slots hash (class_mask c) (class_mask c + 14)) (set_room (class_mask c)) k.texts c class_is says.used ws says.table p 2) ∙ u.kind
@@ -117,7 +118,7 @@ module _ (versions : EntryVersionsChangeNothing) (first : FirstEntriesAreElement
   -- ---- the puts
 
   abbrev b0 : List ℕ
-  b0 = (held_words o v).block
+  b0 = (held_unboxed o v).block
 
   names_now : slice_index block 0 ≡ suc t
   names_now = root_stays b0 (length elements.elements + 1) (p + 1) (elements.next + 1) ∙ names
@@ -127,7 +128,7 @@ module _ (versions : EntryVersionsChangeNothing) (first : FirstEntriesAreElement
   inside w few = omega (arith, few, room)
 
   -- one put into the table
-  table_put : (l : List ℕ) (i x : ℕ) → i < size c → Careful n m l (under (content.Set elements)) i x → ((q : ℕ) → i ≡ entry_offset n q 0 → x % 2 ≡ 1) → MayPut kind.Set t (content.Set elements) false (record { block = block; table = l }) (to_table i x)
+  table_put : (l : List ℕ) (i x : ℕ) → i < size c → Careful n m l (under (content.Set elements)) i x → ((q : ℕ) → i ≡ entry_offset n q 0 → x % 2 ≡ 1) → IsNoValue kind.Set c i → MayPut kind.Set t (content.Set elements) false (record { block = block; table = l }) (to_table i x)
   table_put l i x = put_while_open kind.Set tt t (content.Set elements) (record { block = block; table = l }) i x names_now
 
   -- the puts of the entry before its kind
@@ -167,15 +168,15 @@ module _ (versions : EntryVersionsChangeNothing) (first : FirstEntriesAreElement
       let e = even in
       let of_key = new_key n m ws p slot room in_index at_least even none free before in
       let of_value = new_value n m ws p slot room in_index at_least even none free before in
-      let p1 = table_put ws (entry_offset n p 0) (ver + 1) (inside 0 (omega arith)) (new_open n m ws p slot room in_index at_least even none free before) (λ q z. omega (arith, e)) in
-      let p2 = table_put l1 (entry_offset n p 1) (hash_of k.texts key) (inside 1 (omega arith)) (of_key l1 s1 1 (hash_of k.texts key) (inl refl)) (λ q z. absurd (omega (arith, z))) in
-      let p3 = table_put l2 (entry_offset n p 3) (key_payload key) (inside 3 (omega arith)) (of_key l2 s2 3 (key_payload key) (inr refl)) (λ q z. absurd (omega (arith, z))) in
-      let p4 = table_put l3 (entry_offset n p 6) elements.next (inside 6 (omega arith)) (of_value l3 s3 6 elements.next (omega arith) (omega arith)) (λ q z. absurd (omega (arith, z))) in
-      let p5 = table_put l4 (entry_offset n p 2) (key_kind key) (inside 2 (omega arith)) (new_kind n m ws p slot room in_index at_least even none free key l4 s4 before) (λ q z. absurd (omega (arith, z))) in
-      let p6 = table_put (slice_set l4 (entry_offset n p 2) (key_kind key)) slot (p + 1) (omega (arith, in_index)) (new_index n m ws p slot room in_index at_least even none free key l4 s4 before) (λ q z. absurd (omega (arith, z, in_index))) in
+      let p1 = table_put ws (entry_offset n p 0) (ver + 1) (inside 0 (omega arith)) (new_open n m ws p slot room in_index at_least even none free before) (λ q z. omega (arith, e)) (set_entry_far c p 0 (omega arith) (λ z. omega (arith, z)) (λ z. omega (arith, z))) in
+      let p2 = table_put l1 (entry_offset n p 1) (hash_of k.texts key) (inside 1 (omega arith)) (of_key l1 s1 1 (hash_of k.texts key) (inl refl)) (λ q z. absurd (omega (arith, z))) (set_entry_far c p 1 (omega arith) (λ z. omega (arith, z)) (λ z. omega (arith, z))) in
+      let p3 = table_put l2 (entry_offset n p 3) (key_payload key) (inside 3 (omega arith)) (of_key l2 s2 3 (key_payload key) (inr refl)) (λ q z. absurd (omega (arith, z))) (set_entry_far c p 3 (omega arith) (λ z. omega (arith, z)) (λ z. omega (arith, z))) in
+      let p4 = table_put l3 (entry_offset n p 6) elements.next (inside 6 (omega arith)) (of_value l3 s3 6 elements.next (omega arith) (omega arith)) (λ q z. absurd (omega (arith, z))) (set_entry_far c p 6 (omega arith) (λ z. omega (arith, z)) (λ z. omega (arith, z))) in
+      let p5 = table_put l4 (entry_offset n p 2) (key_kind key) (inside 2 (omega arith)) (new_kind n m ws p slot room in_index at_least even none free key l4 s4 before) (λ q z. absurd (omega (arith, z))) (set_entry_far c p 2 (omega arith) (λ z. omega (arith, z)) (λ z. omega (arith, z))) in
+      let p6 = table_put (slice_set l4 (entry_offset n p 2) (key_kind key)) slot (p + 1) (omega (arith, in_index)) (new_index n m ws p slot room in_index at_least even none free key l4 s4 before) (λ q z. absurd (omega (arith, z, in_index))) (set_slot_far c slot in_index) in
       (p1, (p2, (p3, (p4, (p5, (p6, tt))))))
 
-  early : MayPuts kind.Set t (content.Set elements) false (held_words o v) (count_puts (length elements.elements + 1) (p + 1) (elements.next + 1) ++ element_puts n ws p slot (hash_of k.texts key) key elements.next)
+  early : MayPuts kind.Set t (content.Set elements) false (held_unboxed o v) (count_puts (length elements.elements + 1) (p + 1) (elements.next + 1) ++ element_puts n ws p slot (hash_of k.texts key) key elements.next)
   early = counts_may_be_put kind.Set t (content.Set elements) b0 ws (length elements.elements + 1) (p + 1) (elements.next + 1) (element_puts n ws p slot (hash_of k.texts key) key elements.next) all_puts
 
   payload_is : entry_field n l4 p 3 ≡ key_payload key
@@ -186,7 +187,7 @@ module _ (versions : EntryVersionsChangeNothing) (first : FirstEntriesAreElement
 
   -- nothing is under the key before
   lacks : under (content.Set elements) key ≡ []
-  lacks = set_lacks elements key fits (set_fits_words k.texts (held_words o v).block (0 ∷ 0 ∷ ws) c p elements says) missing
+  lacks = set_lacks elements key fits (set_fits_words k.texts (held_unboxed o v).block (0 ∷ 0 ∷ ws) c p elements says) missing
 
   clear : Clear (walk_of kind.Set k.texts c) n m put (under (content.Set elements)) (under (content.Set news))
   clear =
@@ -200,7 +201,7 @@ module _ (versions : EntryVersionsChangeNothing) (first : FirstEntriesAreElement
       let care =
       new_late n m ws p slot room in_index at_least even none free key l4 s4 (under (content.Set news))
       (λ a l. set_right first k.texts block c (p + 1) class_is news put now p a room l) in
-      ((names_now, inside 0 (omega arith), care, record { before = λ q less at one. absurd (omega (arith, one, e)); later = λ q less at two. refl }), tt)
+      ((names_now, inside 0 (omega arith), care, record { before = λ q less at one. absurd (omega (arith, one, e)); later = λ q less at two. refl }, set_entry_far c p 0 (omega arith) (λ z. omega (arith, z)) (λ z. omega (arith, z))), tt)
 
   ends : IsSetWords k.texts block (0 ∷ 0 ∷ (at_end v o write).table) (Some c) (p + 1) news
   ends = version_stands versions k.texts block put c (p + 1) p (ver + 2) class_is (content.Set news) tt now
@@ -254,6 +255,7 @@ module _ (versions : EntryVersionsChangeNothing) (first : FirstEntriesAreElement
         called = record { of = refl; wrote = refl; fits = fits; locks = one_locked o v.log may.mine; replied = λ r e. inr e; declared = λ world one. record { one = one; both = tt; room = tt } };
         root = tt;
         early = early;
+        boxes = tt;
         names = names_now;
         clear = clear;
         late = late;

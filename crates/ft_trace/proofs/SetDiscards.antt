@@ -14,7 +14,7 @@ use Rattle.ft_model.specs.Worlds.{set_of, no_hands}
 use Rattle.ft_model.specs.TableUses.{stored_newest}
 use Rattle.ft_layout.specs.Words.{FitsKey, key_kind, key_payload}
 use Rattle.ft_trace.specs.Addresses.{class_of, slots}
-use Rattle.ft_trace.specs.Holds.{held_words, known_state}
+use Rattle.ft_trace.specs.Holds.{held_unboxed, known_state}
 use Rattle.ft_trace.specs.Kinds.{is_key, element_words, under}
 use Rattle.ft_trace.specs.WholeWrites.{at_commit}
 use Rattle.ft_trace.specs.SetWrites.{set_discard_write, ElementsMayBeDiscarded}
@@ -41,9 +41,9 @@ elements_may_be_discarded versions first v o t place key elements may is_set nam
     let at = at_commit v o (set_discard_write v o t place key elements) in
     let says = known_says v o t (content.Set elements) may is_set names in
     delete_possible versions v o t place (length elements.elements - 1) key (content.Set elements) (content.Set news) tt tt (call.Set o (set.Discard key)) may is_set names low live now
-    (λ a same. none_under elements key a fits (set_fits_words v.shape.texts (held_words o v).block (0 ∷ 0 ∷ (held_words o v).table) (class_of t) fill elements says) same)
-    (set_clear first v.shape.texts at.block (held_words o v).block (class_of t) fill fill (in_bank v o t may.low may.possible may.mine names).0 elements news (held_words o v).table at.table says now)
-    (λ e. let x : said_of (slots (class_of t)) (held_words o v).table place ≡ [] = sym (set_right first v.shape.texts (held_words o v).block (class_of t) fill (in_bank v o t may.low may.possible may.mine names).0 elements (held_words o v).table says place key low live) ∙ e in absurd (cc))
+    (λ a same. none_under elements key a fits (set_fits_words v.shape.texts (held_unboxed o v).block (0 ∷ 0 ∷ (held_unboxed o v).table) (class_of t) fill elements says) same)
+    (set_clear first v.shape.texts at.block (held_unboxed o v).block (class_of t) fill fill (in_bank v o t may.low may.possible may.mine names).0 elements news (held_unboxed o v).table at.table says now)
+    (λ e. let x : said_of (slots (class_of t)) (held_unboxed o v).table place ≡ [] = sym (set_right first v.shape.texts (held_unboxed o v).block (class_of t) fill (in_bank v o t may.low may.possible may.mine names).0 elements (held_unboxed o v).table says place key low live) ∙ e in absurd (cc))
     (record { of = refl; wrote = refl; fits = fits; locks = one_locked o v.log may.mine; replied = λ r e. inr e; declared = λ world one. record { one = one; both = tt; room = tt } })
     (λ calls agree. ap (λ (z : SetContent). answer_set (stored_newest v.shape.starts calls).world no_hands o z (set.Discard key)) (ap set_of (content_there v o (content.Set elements) may.low may.mine is_set calls agree (content.Set empty_set))))
     (λ stored no_keys. (refl, refl))

@@ -23,7 +23,7 @@ use Rattle.ft_trace.specs.declared.Snap.{Snap}
 use Rattle.ft_trace.specs.declared.View.{View}
 use Rattle.ft_trace.specs.Addresses.{class_of}
 use Rattle.ft_trace.specs.Kinds.{is_key, element_words, under}
-use Rattle.ft_trace.specs.Holds.{known_state, in_hand, AgreesWith}
+use Rattle.ft_trace.specs.Holds.{known_state, hand_unboxed, AgreesWith}
 use Rattle.ft_trace.specs.Traces.{IsReachable}
 use Rattle.ft_trace.specs.WholeWrites.{WholeWrite, at_commit, after_write_of, MayBegin}
 use Rattle.ft_trace.specs.SetGrowWrites.{set_grow_write, HasSetGrown, SetsMayGrow}
@@ -78,7 +78,7 @@ module _ (versions : EntryVersionsChangeNothing) (first : FirstEntriesAreElement
   c = class_of t
 
   abbrev zs : List ℕ
-  zs = in_hand t v
+  zs = hand_unboxed o t v
 
   abbrev news : SetContent
   news = set_add elements key
@@ -130,11 +130,11 @@ module _ (versions : EntryVersionsChangeNothing) (first : FirstEntriesAreElement
   old_fit =
       All-front (λ element. FitsKey element.key) elements.elements (new_one elements key has.missing)
       (subst (λ (d : SetContent). All (λ element. FitsKey element.key) d.elements) (added_is elements key has.missing)
-      (set_fits_words k.texts (at_commit v o write).block (0 ∷ 0 ∷ in_hand t v) (class_of t) fill news has.words))
+      (set_fits_words k.texts (at_commit v o write).block (0 ∷ 0 ∷ hand_unboxed o t v) (class_of t) fill news has.words))
 
   pub set_grow_possible : (start number : ℕ) × (s : Snap) × (stop : ℕ) × IsReachable (after_write_of v o t write start number s stop)
   set_grow_possible =
-      grow_possible versions v o t p fill (elements.next + 1) key (content.Set elements) (content.Set news) tt tt called begin is_set has.table has.fresh has.low has.live has.open_entry has.others has.words has.words.head.size (set_right first k.texts block c fill class_is news zs has.words) (set_named first k.texts block c fill class_is news zs has.words) (set_reached first k.texts block c fill class_is news zs has.words)
+      grow_possible versions v o t p fill (elements.next + 1) key (content.Set elements) (content.Set news) tt tt called begin is_set has.table has.fresh has.low has.live has.open_entry has.others has.references has.words has.words.head.size (set_right first k.texts block c fill class_is news zs has.words) (set_named first k.texts block c fill class_is news zs has.words) (set_reached first k.texts block c fill class_is news zs has.words)
       (λ q a less ne l yes.
       let fits : set_room (class_mask c) ≡ set_entries c = room_is first k.texts block c fill class_is news zs has.words in
       let low = has.low in

@@ -23,7 +23,7 @@ use Rattle.ft_trace.specs.Acts.{has_lock}
 use Rattle.ft_trace.specs.Pictures.{root_in, index_field, entry_field, walk_of}
 use Rattle.ft_trace.specs.Carefuls.{said_of, HasLiveKey, Reached, Clear, OpensChanged}
 use Rattle.ft_trace.specs.Kinds.{under}
-use Rattle.ft_trace.specs.Holds.{held_words, known_state, AgreesWith}
+use Rattle.ft_trace.specs.Holds.{held_unboxed, known_state, AgreesWith}
 use Rattle.ft_trace.proofs.Known.{table_is_long}
 use Rattle.ft_trace.proofs.Tellings.{live_is_right, live_below, few_live, key_reached, key_named, words_clear}
 use Rattle.ft_trace.proofs.KnownContents.{content_there, content_left}
@@ -106,6 +106,6 @@ module _ (v : View) (o : ℕ) (elements : SetContent) (low : o < container_count
 
 -- the words of the table that a set's root names
 module _ (v : View) (o t : ℕ) where
-  pub set_is_long : root_in (held_words o v) ≡ suc t → slots (class_of t) + 8 * set_entries (class_of t) ≤ length (held_words o v).table
+  pub set_is_long : root_in (held_unboxed o v) ≡ suc t → slots (class_of t) + 8 * set_entries (class_of t) ≤ length (held_unboxed o v).table
   unfolding places
   set_is_long names = let l = table_is_long v o t names in omega (arith, l)

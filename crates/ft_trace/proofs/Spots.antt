@@ -13,7 +13,7 @@ use Rattle.ft_trace.specs.Ages.{age, whose}
 use Rattle.ft_trace.specs.LoggedLookUps.{Online, LookUpWindow}
 use Rattle.ft_trace.specs.ContainerStates.{first_writes}
 use Rattle.ft_trace.specs.Traces.{Event, run, word, history, Valid}
-use Rattle.ft_trace.proofs.EarlierMoments.{was, still_reads, online_before, online_after, online_rest}
+use Rattle.ft_trace.proofs.EarlierMoments.{was, still_reads, online_before, online_after, online_rest, Leaves}
 use Rattle.ft_trace.proofs.Pieces.{table_at}
 use Rattle.ft_trace.proofs.TablePlaces.{root, root_table, placed}
 use Rattle.ft_trace.proofs.Contents.{count, counted, tab}
@@ -58,7 +58,7 @@ pub record Back (k : Shape) (t j : ℕ) (start : List Act) (es : List Event) (a 
   pub tells : Reports a (word k spot.es (place a))
   pub later : LaterIn k (whose es t) t (tab k spot.es t) (tab k es t)
 
-pub go : (k : Shape) (t j : ℕ) (start walk : List Act) → IsTableName k t → reads t start ≡ true → (s : Spot k t j start walk) → (xs : List Act) (a : Act) (rest : List Act) → walk ≡ xs ++ a ∷ rest → Back k t j start s.es a rest
+unfoldable pub go : (k : Shape) (t j : ℕ) (start walk : List Act) → IsTableName k t → reads t start ≡ true → (s : Spot k t j start walk) → (xs : List Act) (a : Act) (rest : List Act) → walk ≡ xs ++ a ∷ rest → Back k t j start s.es a rest
 go k t j start walk table read s xs a rest is =
     let log : s.view.log ≡ xs ++ a ∷ (rest ++ start) = s.log ∙ (ap (λ (l : List Act). l ++ start) is ∙ append_assoc xs (a ∷ rest) start) in
     let w = was k s.es s.valid j s.view s.at xs a (rest ++ start) log in
@@ -86,6 +86,13 @@ go k t j start walk table read s xs a rest is =
       later = subst (λ (z : ℕ). LaterIn k z t (tab k w.older t) (tab k s.es t)) whom (subst (λ (l : List Event). LaterIn k (whose w.older t) t (tab k w.older t) (tab k l t)) w.split (laters k w.newer w.older (subst (Valid k) (sym w.split) s.valid) t table now same'));
     }
 
+-- what each event since then leaves is as it was then
+pub go_kept : (k : Shape) (t j : ℕ) (start walk : List Act) (table : IsTableName k t) (read : reads t start ≡ true) (s : Spot k t j start walk) (xs : List Act) (a : Act) (rest : List Act) (is : walk ≡ xs ++ a ∷ rest) (f : List Event → ℕ) → Leaves k f j (xs ++ a ∷ []) (rest ++ start) → f s.es ≡ f (go k t j start walk table read s xs a rest is).spot.es
+unfolding go
+go_kept k t j start walk table read s xs a rest is =
+    let log : s.view.log ≡ xs ++ a ∷ (rest ++ start) = s.log ∙ (ap (λ (l : List Act). l ++ start) is ∙ append_assoc xs (a ∷ rest) start) in
+    (was k s.es s.valid j s.view s.at xs a (rest ++ start) log).kept
+
 -- the second read of the root
 pub record Opened (k : Shape) (es : List Event) (o t j : ℕ) (start walk : List Act) : Type 0 where
   pub table : IsTableName k t
@@ -93,7 +100,7 @@ pub record Opened (k : Shape) (es : List Event) (o t j : ℕ) (start walk : List
   pub whom : whose spot.es t ≡ o
   pub under : Under spot.es es
 
-pub open_window : (k : Shape) (es : List Event) → Valid k es → (j : ℕ) (u : View) → get_elem? (run k es).views j ≡ some u → (o t : ℕ) → o < container_count k → (walk : List Act) (w : LookUpWindow u.log o t walk) → Opened k es o t j w.rest walk
+unfoldable pub open_window : (k : Shape) (es : List Event) → Valid k es → (j : ℕ) (u : View) → get_elem? (run k es).views j ≡ some u → (o t : ℕ) → o < container_count k → (walk : List Act) (w : LookUpWindow u.log o t walk) → Opened k es o t j w.rest walk
 open_window k es valid j u at o t low walk win =
     let w = was k es valid j u at win.newer (ReadRoot o (suc t)) (walk ++ win.rest) win.is in
     let names : root k w.older o ≡ suc t = sym w.tells in
@@ -105,6 +112,10 @@ open_window k es valid j u at o t low walk win =
       whom = p.1;
       under = record { newer = w.newer; is = w.split };
     }
+
+pub window_kept : (k : Shape) (es : List Event) (valid : Valid k es) (j : ℕ) (u : View) (at : get_elem? (run k es).views j ≡ some u) (o t : ℕ) (low : o < container_count k) (walk : List Act) (w : LookUpWindow u.log o t walk) (f : List Event → ℕ) → Leaves k f j (w.newer ++ ReadRoot o (suc t) ∷ []) (walk ++ w.rest) → f es ≡ f (open_window k es valid j u at o t low walk w).spot.es
+unfolding open_window
+window_kept k es valid j u at o t low walk win = (was k es valid j u at win.newer (ReadRoot o (suc t)) (walk ++ win.rest) win.is).kept
 
 -- what whose current table is, names it
 pub named_by : (k : Shape) (es : List Event) → Valid k es → (o t : ℕ) → IsTableName k t → age es t % 5 ≡ 2 → whose es t ≡ o → root k es o ≡ suc t

@@ -22,6 +22,7 @@ use Rattle.ft_trace.specs.StoppedLookUps.{Stopped, IsOpenAs, IsOpenMeanwhile, Is
 use Rattle.ft_trace.specs.Traces.{Event, did, forked, joined, sent, run, CarefulFor, TimelyFor, Valid}
 use Rattle.ft_trace.proofs.Addresses.{block_first}
 use Rattle.ft_trace.proofs.Ages.{ages_one, ages_rise, whose_same}
+use Rattle.ft_trace.proofs.ReadTables.{raw_careful_for}
 use Rattle.ft_trace.proofs.ByKind.{as_version, row_low}
 use Rattle.ft_trace.proofs.Contents.{tab}
 use Rattle.ft_trace.proofs.EarlierMoments.{valid_rest}
@@ -133,7 +134,7 @@ module _ (k : Shape) (o t p : ℕ) (low : o < container_count k) (small : p < ro
       either_way (has_committed o v.log)
       (λ done.
       let table = root_table k (did id v A ∷ es) ok o low t now.0 in
-      let even = ok.1.3.8 t is done p small in
+      let even = ok.1.3.9 t is done p small in
       let same = table_same k t (run k (did id v A ∷ es)).words (run k es).words (λ i low_i. stays k es id v A ok.1.3 (cell t i) (table, low_i) (λ e. absurd (cc))) in
       let x_is = now.1 in
       let one = now.2 in
@@ -246,7 +247,7 @@ module _ (k : Shape) (o t p : ℕ) (low : o < container_count k) (small : p < ro
       dite (ℕ_discrete i V)
       (λ (e : i ≡ V).
       let new : ver (did id v (PutTable q t i y) ∷ es) ≡ y = ap (λ (z : List ℕ). slice_index z V) is ∙ (ap (λ (z : ℕ). slice_index (slice_set ws z y) V) e ∙ get_or-set_same ws V y 0 (subst (λ (z : ℕ). V < z) (sym (table_long k t (run k es).words)) (row_low (kind_in k.starts o) (class_of t) p table.0 small))) in
-      inr (new ∙ as_version (kind_in k.starts o) (class_of t) ws (content k es o) i y care p small e))
+      inr (new ∙ as_version (kind_in k.starts o) (class_of t) ws i y (raw_careful_for k es o t (content k es o) i y care) p small e))
       (λ ne. inl (ap (λ (z : List ℕ). slice_index z V) is ∙ get_or-set_other ws i V y 0 (λ e. ne (sym e)))))
       (λ i y ok. let one = ok.1.3.2 in let its = placed k es ok.0 t table in let a = (its.hands id v ok.1.0 (λ z. absurd (omega (arith, z, one)))).0 in absurd (omega (arith, a, two, one)))
       (λ b same_by ok. inl (ap (λ (z : List ℕ). slice_index z V) (same_by ok.1.3)))

@@ -35,10 +35,10 @@ use Rattle.ft_trace.specs.OpenedEntries.{OpensChangedAs, OpensChangedBy}
 use Rattle.ft_trace.specs.Pictures.{entry_offset, entry_field, index_field, item_offset, walk_of}
 use Rattle.ft_trace.specs.StoppedLookUps.{Stopped, MetKey, ChangesKey, ChangesIndex, ReadersOfKeysAreStoppedByWrites, ReadersOfItemsAreStoppedByWrites}
 use Rattle.ft_trace.specs.Traces.{Event, run, history, Valid}
-use Rattle.ft_trace.proofs.ByKind.{keyed_later, keyed_low, keyed_sound}
+use Rattle.ft_trace.proofs.ByKind.{keyed_later, keyed_low}
 use Rattle.ft_trace.proofs.Carefuls.{kind_is, later_used, used_of}
 use Rattle.ft_trace.proofs.Contents.{tab}
-use Rattle.ft_trace.proofs.Sounds.{LaterIn, sound_at}
+use Rattle.ft_trace.proofs.Sounds.{LaterIn, sound_named}
 use Rattle.ft_trace.proofs.Spots.{Under, Back, named_by, found}
 use Rattle.ft_trace.proofs.StoppedLookUps as stopped
 
@@ -191,10 +191,9 @@ module _ (k : Shape) (es : List Event) (valid : Valid k es) (o t p a b : ℕ) (k
       let table = (stopped.open_ k o t p low small es valid a b j u at s).table in
       let then_ = at_slot.spot.es in
       let names = named_by k then_ at_slot.spot.valid o t table at_slot.spot.now (at_slot.whom ∙ whom_p) in
-      let sound = keyed_sound (kind_in k.starts o) keyed k.texts (class_of t) (tab k then_ t) (container_after k.starts (history then_) o).content (sound_at k then_ at_slot.spot.valid o low t names) in
       let less = probe_low (kind_in k.starts o) keyed k.texts (class_of t) table.0 key met.passed met.left met.slot met.probe in
       let gave : suc p ≡ index_field (tab k then_ t) met.slot = found k t j met.slot (suc p) start met.named.rest at_payload.spot.es (omega (arith, less)) at_slot in
-      later_used N R (tab k then_ t) (tab k at_payload.spot.es t) (later_from at_payload.spot.es slot_read met.named.rest whom_p at_slot) p small (sound.named met.slot p less small (sym gave))
+      later_used N R (tab k then_ t) (tab k at_payload.spot.es t) (later_from at_payload.spot.es slot_read met.named.rest whom_p at_slot) p small (sound_named k then_ at_slot.spot.valid o low keyed t names met.slot p less small (sym gave))
 
   payload1 : entry_field N (tab k E1 t) p 3 ≡ key_payload key
   payload1 = (later_from E1 payload_read met.payload.rest whom1 at_payload).key p small used_then ∙ sym (found k t j (entry_offset N p 3) (key_payload key) start met.payload.rest E1 (fits 3 (omega arith)) at_payload)

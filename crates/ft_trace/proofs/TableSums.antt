@@ -10,7 +10,7 @@ use Rattle.ft_trace.specs.declared.View.{View}
 use Rattle.ft_trace.specs.Acts.{stage}
 use Rattle.ft_trace.specs.Addresses.{IsTableName, bits, block, class_of, number_of, container_count, tables_in, free_bit_of, free_word_of}
 use Rattle.ft_trace.specs.Ages.{age, whose}
-use Rattle.ft_trace.specs.Counts.{sum_to}
+use Rattle.ft_trace.specs.Sums.{sum_to}
 use Rattle.ft_trace.specs.Entries.{total}
 use Rattle.ft_trace.specs.TableCounts.{names_class, is_in_hand, is_retired, current_tables, tables_in_hand, retired_tables, TablesAddUp}
 use Rattle.ft_trace.specs.Traces.{Event, run, word, Valid}

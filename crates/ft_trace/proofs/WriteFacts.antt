@@ -22,9 +22,11 @@ use Rattle.ft_trace.specs.Kinds.{rows, version_at, SoundAs, ClearAs}
 use Rattle.ft_trace.specs.FitCalls.{FitsCall}
 use Rattle.ft_trace.specs.BegunSections.{HasLocksOf}
 use Rattle.ft_trace.specs.OddVersions.{Shut}
-use Rattle.ft_trace.specs.Holds.{known_state, in_hand, AgreesWith}
+use Rattle.ft_trace.specs.Holds.{held_words, known_state, hand_unboxed, AgreesWith}
+use Rattle.ft_trace.specs.declared.Act.TheVariants.{PutRoot}
+use Rattle.ft_trace.specs.Boxes.{HasReferences}
 use Rattle.ft_trace.specs.Traces.{IsReachable}
-use Rattle.ft_trace.specs.WholeWrites.{MayPuts, WholeWrite, with_root_put, at_commit, at_end, after_write_of, MayBegin, MayReplace, MayCommitWrite, MayWriteSo}
+use Rattle.ft_trace.specs.WholeWrites.{MayPuts, HasBoxes, spare_references, WholeWrite, with_root_put, at_commit, at_end, after_write_of, MayBegin, MayReplace, MayCommitWrite, MayWriteSo}
 use Rattle.ft_trace.proofs.Known.{kind_known, declared_at}
 use Rattle.ft_trace.proofs.KnownContents.{in_world, content_there, content_left}
 use Rattle.ft_trace.proofs.Writing.{write_possible}
@@ -50,6 +52,7 @@ pub record WriteFacts (v : View) (o t : ℕ) (x news : Content) (table : TableUs
   pub called : CallFacts v o (kind_of x) write.call write.reply
   pub root : MayReplace v o write.call write.root
   pub early : MayPuts (kind_of x) t x false (with_root_put v o write.root) write.early
+  pub boxes : HasBoxes v.shape v.log (spare_references v write.root) write.early
   pub names : root_in (at_commit v o write) ≡ suc t
   pub clear : ClearAs (kind_of x) v.shape.texts (class_of t) (at_commit v o write).table x news
   pub late : MayPuts (kind_of x) t news true (at_commit v o write) write.late
@@ -59,13 +62,13 @@ pub record WriteFacts (v : View) (o t : ℕ) (x news : Content) (table : TableUs
   pub history : (calls : List Call) → AgreesWith v (stored_newest v.shape.starts calls) → PutsContent v o news table write (stored_newest v.shape.starts calls)
 
 -- a fresh table may be put in the root that holds for readers what the container has
-pub replaces : (v : View) (o t : ℕ) (x : Content) (called : Call) (begin : MayBegin v o) → (known_state o v).content ≡ x → IsTableName v.shape t → stage t v.log ≡ 1 → SoundAs (kind_of x) v.shape.texts (class_of t) (in_hand t v) x → ((q : ℕ) → q < rows (kind_of x) (class_of t) → slice_index (in_hand t v) (version_at (kind_of x) (class_of t) q) ≤ 1)
-    → MayReplace v o called (Some (suc t))
-replaces v o t x called begin is named fresh sound young =
+pub replaces : (v : View) (o t : ℕ) (x : Content) (called : Call) (begin : MayBegin v o) → (known_state o v).content ≡ x → IsTableName v.shape t → stage t v.log ≡ 1 → SoundAs (kind_of x) v.shape.texts (class_of t) (hand_unboxed o t v) x → ((q : ℕ) → q < rows (kind_of x) (class_of t) → slice_index (hand_unboxed o t v) (version_at (kind_of x) (class_of t) q) ≤ 1)
+    → HasReferences v.shape v.log (PutRoot o (suc t) (root_in (held_words o v))) o → MayReplace v o called (Some (suc t))
+replaces v o t x called begin is named fresh sound young refs =
     let kind_eq : kind_of x ≡ kind_in v.shape.starts o = sym (ap kind_of is) ∙ kind_known v o begin.mine begin.possible in
-    let sound_as : SoundAs (kind_in v.shape.starts o) v.shape.texts (class_of t) (in_hand t v) (known_state o v).content = subst (λ (z : Kind × Content). SoundAs z.0 v.shape.texts (class_of t) (in_hand t v) z.1) (λ d. (kind_eq d, sym is d)) sound in
-    let low_as : (q : ℕ) → q < rows (kind_in v.shape.starts o) (class_of t) → slice_index (in_hand t v) (version_at (kind_in v.shape.starts o) (class_of t) q) ≤ 1 = subst (λ (z : Kind). (q : ℕ) → q < rows z (class_of t) → slice_index (in_hand t v) (version_at z (class_of t) q) ≤ 1) kind_eq young in
-    (named, fresh, sound_as, low_as)
+    let sound_as : SoundAs (kind_in v.shape.starts o) v.shape.texts (class_of t) (hand_unboxed o t v) (known_state o v).content = subst (λ (z : Kind × Content). SoundAs z.0 v.shape.texts (class_of t) (hand_unboxed o t v) z.1) (λ d. (kind_eq d, sym is d)) sound in
+    let low_as : (q : ℕ) → q < rows (kind_in v.shape.starts o) (class_of t) → slice_index (hand_unboxed o t v) (version_at (kind_in v.shape.starts o) (class_of t) q) ≤ 1 = subst (λ (z : Kind). (q : ℕ) → q < rows z (class_of t) → slice_index (hand_unboxed o t v) (version_at z (class_of t) q) ≤ 1) kind_eq young in
+    (named, fresh, sound_as, low_as, refs)
 
 module _ (v : View) (o t : ℕ) (x news : Content) (table : TableUse) (write : WholeWrite) (begin : MayBegin v o) (is : (known_state o v).content ≡ x) (facts : WriteFacts v o t x news table write) where
   kind_eq : kind_of x ≡ kind_in v.shape.starts o
@@ -96,6 +99,7 @@ module _ (v : View) (o t : ℕ) (x news : Content) (table : TableUse) (write : W
     locks = facts.called.locks;
     root = facts.root;
     early = subst (λ (z : Kind × Content). MayPuts z.0 t z.1 false (with_root_put v o write.root) write.early) (λ d. (kind_eq d, sym is d)) facts.early;
+    boxes = facts.boxes;
     commit = commits;
     shut = λ q root. let same : t ≡ q = let r : suc t ≡ suc q = sym facts.names_still ∙ root in omega (arith, r) in subst (λ (z : Kind × ℕ). Shut (version_at z.0 (class_of z.1)) (rows z.0 (class_of z.1)) (at_end v o write).table) (λ d. (kind_eq d, same d)) facts.shut;
   }

@@ -3,7 +3,7 @@ use Rattle.std.specs.Prelude.{◌≡◌, ℕ, zero, suc, max, ◌+◌, ◌-◌, 
 use Rattle.std.specs.List.{flat_map}
 use prog.Atomic.{either}
 use Rattle.ft_trace.specs.declared.Act.{Act}
-use Rattle.ft_trace.specs.declared.Act.TheVariants.{Lock, Unlock, StartWrite, PutBlock, PutRoot, PutTable, PutFresh, PutHeader, ReadHeader, Commit, StopWrite, Version, ReadBlock, ReadRoot, ReadTable, ReadCounter, Answer, AnswerCursor, LowerCount, RaiseCount, ReadCount, ReadFree, TakeTable, GiveTable, Retire, Announce, ReadAnnounced, WriteNumber, TakeFloor, TookOver}
+use Rattle.ft_trace.specs.declared.Act.TheVariants.{Lock, Unlock, StartWrite, PutBlock, PutRoot, PutTable, PutFresh, PutHeader, ReadHeader, Commit, StopWrite, Version, ReadBlock, ReadRoot, ReadTable, ReadCounter, Answer, AnswerCursor, LowerCount, RaiseCount, ReadCount, ReadFree, TakeTable, GiveTable, Retire, Announce, ReadAnnounced, WriteNumber, TakeFloor, TookOver, ReadFreePlaces, TakePlace, PutBox, PublishBox, ReadBox, RaiseLocal, DropLocal, ClearLocal, MergeCounts, RaiseShared, RaiseKept, DropShared, GivePlace}
 use Rattle.ft_trace.specs.declared.Entry.{Entry}
 use Rattle.ft_trace.specs.declared.Handed.{Handed}
 use Rattle.ft_trace.specs.declared.Presence.{Presence}
@@ -13,8 +13,10 @@ use Rattle.ft_trace.specs.declared.Told.{Told}
 use Rattle.ft_model.specs.declared.call.Call.{Call}
 use Rattle.ft_trace.specs.declared.View.{View}
 use Rattle.ft_trace.specs.Bits.{bit, bit_on, bit_off}
+use Rattle.ft_trace.specs.BoxWords.{raised_word, lowered_word}
 use Rattle.ft_trace.specs.Owners.{had_locks, found_owners}
-use Rattle.ft_trace.specs.Addresses.{Word, counter, write_number, announced_of, count_of_class, bits, lock_of, version_of, block, header, cell, class_of, at, free_word_of, free_bit_of}
+use Rattle.ft_trace.specs.Addresses.{Word, counter, write_number, announced_of, count_of_class, bits, lock_of, version_of, block, header, cell, heap_bits, box_word, maker_of, place_word_of, place_bit_of, class_of, at, free_word_of, free_bit_of}
+use Rattle.ft_layout.specs.Starts.{local_word, shared_word}
 
 -- the word of an action
 abbrev pub place : Act → Word
@@ -48,6 +50,19 @@ place (ReadAnnounced p f) = announced_of p
 place (WriteNumber f) = write_number
 place (TakeFloor f s) = counter
 place (TookOver tables had found told) = counter
+place (ReadFreePlaces q w f) = heap_bits q w
+place (TakePlace b f) = heap_bits (maker_of b) (place_word_of b)
+place (PutBox b i x) = box_word b i
+place (PublishBox b) = box_word b shared_word
+place (ReadBox b i f) = box_word b i
+place (RaiseLocal b x) = box_word b local_word
+place (DropLocal b x) = box_word b local_word
+place (ClearLocal b) = box_word b local_word
+place (MergeCounts b d f) = box_word b shared_word
+place (RaiseShared b old f) = box_word b shared_word
+place (RaiseKept b f) = box_word b shared_word
+place (DropShared b f) = box_word b shared_word
+place (GivePlace b) = heap_bits (maker_of b) (place_word_of b)
 
 -- what the word becomes, by the pass of this number, where n was there
 abbrev pub word_after : ℕ → Act → ℕ → ℕ
@@ -67,6 +82,17 @@ word_after by (TakeTable t f s) n = bit_off (free_bit_of t) n
 word_after by (GiveTable t) n = bit_on (free_bit_of t) n
 word_after by (Retire t f) n = (n + 1) % 2 ^ 64
 word_after by (Announce p x) n = x
+word_after by (TakePlace b f) n = bit_off (place_bit_of b) n
+word_after by (PutBox b i x) n = x
+word_after by (PublishBox b) n = 0
+word_after by (RaiseLocal b x) n = x
+word_after by (DropLocal b x) n = x
+word_after by (ClearLocal b) n = 0
+word_after by (MergeCounts b d f) n = (n + d) % 2 ^ 64
+word_after by (RaiseShared b old f) n = either (n == old) (raised_word old) n
+word_after by (RaiseKept b f) n = raised_word n
+word_after by (DropShared b f) n = lowered_word n
+word_after by (GivePlace b) n = bit_on (place_bit_of b) n
 word_after by act n = n
 
 -- the number that the action says it found was there
@@ -90,6 +116,13 @@ Reports (Retire t f) n = f ≡ n
 Reports (ReadAnnounced p f) n = f ≡ n
 Reports (WriteNumber f) n = f ≡ n
 Reports (TakeFloor f s) n = f ≡ n
+Reports (ReadFreePlaces q w f) n = f ≡ n
+Reports (TakePlace b f) n = f ≡ n
+Reports (ReadBox b i f) n = f ≡ n
+Reports (MergeCounts b d f) n = f ≡ n
+Reports (RaiseShared b old f) n = f ≡ n
+Reports (RaiseKept b f) n = f ≡ n
+Reports (DropShared b f) n = f ≡ n
 Reports act n = Unit {0}
 
 -- the pass has the lock of o

@@ -1,5 +1,5 @@
 -- The count word of a class against the bits of its tables, and the takings and givings in flight.
-use Rattle.std.specs.Prelude.{ℕ, zero, suc, ◌+◌, ◌-◌, ◌*◌, ◌==◌, cond, List, [], ◌∷◌}
+use Rattle.std.specs.Prelude.{ℕ, suc, ◌+◌, ◌-◌, ◌*◌, ◌==◌, cond, List, [], ◌∷◌}
 use Rattle.ft_trace.specs.declared.Shape.{Shape}
 use Rattle.ft_trace.specs.declared.View.{View}
 use Rattle.ft_trace.specs.declared.Act.{Act}
@@ -7,12 +7,8 @@ use Rattle.ft_trace.specs.declared.Act.TheVariants.{Commit}
 use Rattle.ft_trace.specs.Bits.{bit}
 use Rattle.ft_trace.specs.Addresses.{bits}
 use Rattle.ft_trace.specs.Acts.{flight, owes}
+use Rattle.ft_trace.specs.Sums.{sum_to}
 use Rattle.ft_trace.specs.Traces.{Event, did, forked, joined, sent, word}
-
--- f of the first n numbers, added up
-abbrev pub sum_to : (ℕ → ℕ) → ℕ → ℕ
-sum_to f zero = 0
-sum_to f (suc n) = f n + sum_to f n
 
 -- how many bits of a word are set, and of the sixteen free words of the class
 abbrev pub ones : ℕ → ℕ

@@ -13,7 +13,7 @@ use Rattle.ft_trace.specs.declared.View.{View}
 use Rattle.ft_trace.specs.Addresses.{class_of, slots, places}
 use Rattle.ft_trace.specs.Pictures.{entry_offset, entry_field, root_in}
 use Rattle.ft_trace.specs.Carefuls.{HasLiveKey}
-use Rattle.ft_trace.specs.Holds.{held_words, known_state}
+use Rattle.ft_trace.specs.Holds.{held_words, held_unboxed, known_state}
 use Rattle.ft_trace.specs.Traces.{IsReachable}
 use Rattle.ft_trace.specs.Grants.{MayWrite}
 use Rattle.ft_trace.specs.WholeWrites.{Put, to_block, to_table, WholeWrite, at_commit, after_write_of}
@@ -32,10 +32,10 @@ abbrev pub dict_del_write : View → ℕ → ℕ → ℕ → Key → DictContent
 dict_del_write v o t place key pairs =
     record {
       root = None;
-      early = to_block 1 (length pairs.pairs - 1) ∷ delete_puts (slots (class_of t)) (held_words o v).table place key;
+      early = to_block 1 (length pairs.pairs - 1) ∷ delete_puts (slots (class_of t)) (held_unboxed o v).table place key;
       call = call.Dict o (dict.Del key);
       reply = reply.Done;
-      late = entry_closed (slots (class_of t)) (held_words o v).table place;
+      late = entry_closed (slots (class_of t)) (held_unboxed o v).table place;
     }
 
 -- a pass with the lock of a dict may take out a key that is there, whatever other passes have done, where the words
@@ -44,7 +44,7 @@ abbrev pub KeysMayBeDeleted : Type 0
 KeysMayBeDeleted =
     (v : View) (o t place : ℕ) (key : Key) (pairs : DictContent) → MayWrite v o
     → (known_state o v).content ≡ content.Dict pairs → root_in (held_words o v) ≡ suc t → place < places (class_of t)
-    → HasLiveKey (slots (class_of t)) (held_words o v).table place key → FitsKey key → has_key pairs.pairs key ≡ true
+    → HasLiveKey (slots (class_of t)) (held_unboxed o v).table place key → FitsKey key → has_key pairs.pairs key ≡ true
     → IsDictWords v.shape.texts (at_commit v o (dict_del_write v o t place key pairs)).block
     (0 ∷ 0 ∷ (at_commit v o (dict_del_write v o t place key pairs)).table) (Some (class_of t))
     (known_state o v).table.fill (dict_del pairs key)

@@ -13,9 +13,11 @@ use Rattle.ft_trace.specs.declared.Snap.{Snap}
 use Rattle.ft_trace.specs.declared.View.{View}
 use Rattle.ft_trace.specs.Addresses.{class_of, slots, places, IsTableName}
 use Rattle.ft_trace.specs.Acts.{owes, stage}
-use Rattle.ft_trace.specs.Pictures.{entry_offset, entry_field}
+use Rattle.ft_trace.specs.Pictures.{entry_offset, entry_field, root_in}
 use Rattle.ft_trace.specs.Carefuls.{HasLiveKey}
-use Rattle.ft_trace.specs.Holds.{known_state, in_hand}
+use Rattle.ft_trace.specs.Holds.{held_words, known_state, hand_unboxed}
+use Rattle.ft_trace.specs.declared.Act.TheVariants.{PutRoot}
+use Rattle.ft_trace.specs.Boxes.{HasReferences}
 use Rattle.ft_trace.specs.Traces.{IsReachable}
 use Rattle.ft_trace.specs.WholeWrites.{to_table, WholeWrite, at_commit, after_write_of, MayBegin}
 use Rattle.ft_trace.specs.KeyWrites.{count_puts}
@@ -37,15 +39,17 @@ dict_grow_write v o t place key value pairs =
 pub record HasGrown (v : View) (o t place : ℕ) (key : Key) (value : Value) (pairs : DictContent) : Type 0 where
   pub table : IsTableName v.shape t
   pub fresh : stage t v.log ≡ 1
+  pub references : HasReferences v.shape v.log (PutRoot o (suc t) (root_in (held_words o v))) o
   pub owed : owes v.log ≡ suc (class_of t)
   pub missing : has_key pairs.pairs key ≡ false
   pub takes : dict_takes (known_state o v).table pairs (dict_set pairs key value) ≡ Some (class_of t)
   pub words : IsDictWords v.shape.texts (at_commit v o (dict_grow_write v o t place key value pairs)).block
-      (0 ∷ 0 ∷ in_hand t v) (Some (class_of t)) (length pairs.pairs + 1) (dict_set pairs key value)
+      (0 ∷ 0 ∷ hand_unboxed o t v) (Some (class_of t)) (length pairs.pairs + 1) (dict_set pairs key value)
   pub low : place < places (class_of t)
-  pub live : HasLiveKey (slots (class_of t)) (in_hand t v) place key
-  pub open_entry : entry_field (slots (class_of t)) (in_hand t v) place 0 ≡ 1
-  pub others : (p : ℕ) → p < places (class_of t) → p ≢ place → entry_field (slots (class_of t)) (in_hand t v) p 0 ≡ 0
+  pub live : HasLiveKey (slots (class_of t)) (hand_unboxed o t v) place key
+  pub open_entry : entry_field (slots (class_of t)) (hand_unboxed o t v) place 0 ≡ 1
+  pub others : (p : ℕ) → p < places (class_of t) → p ≢ place
+      → entry_field (slots (class_of t)) (hand_unboxed o t v) p 0 ≡ 0
 
 -- a pass with the lock of a dict that has such a table in hand may put it in the root and add the key, whatever other
 -- passes have done

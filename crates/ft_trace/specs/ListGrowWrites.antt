@@ -13,8 +13,10 @@ use Rattle.ft_trace.specs.declared.View.{View}
 use Rattle.ft_trace.specs.Addresses.{class_of, slots, IsTableName}
 use Rattle.ft_trace.specs.Acts.{owes, stage}
 use Rattle.ft_trace.specs.FitCalls.{FitsValue}
-use Rattle.ft_trace.specs.Pictures.{item_offset, item_field}
-use Rattle.ft_trace.specs.Holds.{known_state, in_hand}
+use Rattle.ft_trace.specs.Pictures.{item_offset, item_field, root_in}
+use Rattle.ft_trace.specs.Holds.{held_words, known_state, hand_unboxed}
+use Rattle.ft_trace.specs.declared.Act.TheVariants.{PutRoot}
+use Rattle.ft_trace.specs.Boxes.{HasReferences}
 use Rattle.ft_trace.specs.Traces.{IsReachable}
 use Rattle.ft_trace.specs.WholeWrites.{to_block, to_table, WholeWrite, at_commit, after_write_of, MayBegin}
 
@@ -35,13 +37,14 @@ list_grow_write v o t value values =
 pub record HasListGrown (v : View) (o t : ℕ) (value : Value) (values : List Value) : Type 0 where
   pub table : IsTableName v.shape t
   pub fresh : stage t v.log ≡ 1
+  pub references : HasReferences v.shape v.log (PutRoot o (suc t) (root_in (held_words o v))) o
   pub owed : owes v.log ≡ suc (class_of t)
   pub fits : FitsValue value
   pub takes : list_takes (known_state o v).table (length values + 1) ≡ Some (class_of t)
-  pub words : IsListWords (at_commit v o (list_grow_write v o t value values)).block (0 ∷ 0 ∷ in_hand t v)
+  pub words : IsListWords (at_commit v o (list_grow_write v o t value values)).block (0 ∷ 0 ∷ hand_unboxed o t v)
       (Some (class_of t)) (values ++ value ∷ [])
-  pub open_item : item_field (in_hand t v) (length values) 0 ≡ 1
-  pub others : (p : ℕ) → p < slots (class_of t) → p ≢ length values → item_field (in_hand t v) p 0 ≡ 0
+  pub open_item : item_field (hand_unboxed o t v) (length values) 0 ≡ 1
+  pub others : (p : ℕ) → p < slots (class_of t) → p ≢ length values → item_field (hand_unboxed o t v) p 0 ≡ 0
 
 -- a pass with the lock of a list that has such a table in hand may put it in the root and append the item, whatever
 -- other passes have done

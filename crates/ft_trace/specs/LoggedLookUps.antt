@@ -1,8 +1,10 @@
 -- What a log shows of one key that was looked up without the lock, in a table that a root named before and after.
 use Rattle.std.specs.Prelude.{◌≡◌, ◌≢◌, ◌⊎◌, ℕ, suc, ◌%◌, ◌<◌, ◌≤◌, true, false, List, [], ◌∷◌, ◌++◌, length, slice_index}
 use Rattle.ft_trace.specs.declared.Act.{Act}
-use Rattle.ft_trace.specs.declared.Act.TheVariants.{ReadRoot, ReadTable, ReadCounter, Version, Announce}
+use Rattle.ft_trace.specs.declared.Act.TheVariants.{ReadRoot, ReadTable, ReadCounter, ReadBox, Version, Announce}
 use Rattle.ft_trace.specs.Acts.{reads}
+use Rattle.ft_layout.specs.Starts.{kind_word, payload_word}
+use Rattle.ft_trace.specs.BoxWords.{box_kind}
 use Rattle.ft_trace.specs.Addresses.{class_of, slots}
 use Rattle.ft_model.specs.declared.data.Key.{Key}
 use Rattle.ft_layout.specs.Words.{key_kind, gone_kind, key_payload}
@@ -141,12 +143,33 @@ pub record Bare (log : List Act) (o n : ℕ) : Type 0 where
   pub root : Among (ReadRoot o 0) mid
   pub stamp : Among (ReadCounter n) mid
 
+-- ---- values
+
+-- the kind of the value whose kind lies at this word of the table was read among these, and names no box
+abbrev pub IsReadInPlace : ℕ → ℕ → List Act → Type 0
+IsReadInPlace t kind_at mid = (kind : ℕ) × (kind ≢ box_kind) × Among (ReadTable t kind_at kind) mid
+
+-- the two words of a value were read among these, at these words of the table, and name this box
+abbrev pub IsReadAsBox : ℕ → ℕ → ℕ → ℕ → List Act → Type 0
+IsReadAsBox t kind_at payload_at b mid =
+    Among (ReadTable t kind_at box_kind) mid × Among (ReadTable t payload_at b) mid
+
+-- the value was read among these, as this kind and payload: as its words stand, or where they name a box, in the box
+abbrev pub IsReadAt : ℕ → ℕ → ℕ → ℕ → ℕ → List Act → Type 0
+IsReadAt t kind_at payload_at kind payload mid =
+    (IsReadInPlace t kind_at mid × Among (ReadTable t kind_at kind) mid × Among (ReadTable t payload_at payload) mid)
+    ⊎ ((b : ℕ) × IsReadAsBox t kind_at payload_at b mid × Among (ReadBox b kind_word kind) mid
+    × Among (ReadBox b payload_word payload) mid)
+
+-- ---- roots
+
 -- none of these reads a root or announces
 abbrev pub Inner : List Act → Type 0
 Inner [] = Unit {0}
 Inner (Version o f ∷ l) = Inner l
 Inner (ReadTable t i f ∷ l) = Inner l
 Inner (ReadCounter f ∷ l) = Inner l
+Inner (ReadBox b i f ∷ l) = Inner l
 Inner (act ∷ l) = ⊥
 
 -- a root that has changed since the pass read it names a table that the pass hasn't found in a root since it last

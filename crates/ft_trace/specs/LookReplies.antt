@@ -16,30 +16,27 @@ use Rattle.ft_model.specs.TableUses.{StoredWorld, stored_newest}
 use Rattle.ft_layout.specs.declared.slot.Stored.TheVariants.{Empty, Plain}
 use Rattle.ft_layout.specs.Words.{FitsKey, IsStored}
 use Rattle.ft_trace.specs.declared.Act.{Act}
-use Rattle.ft_trace.specs.declared.Act.TheVariants.{ReadTable}
 use Rattle.ft_trace.specs.declared.Shape.{Shape}
 use Rattle.ft_trace.specs.declared.View.{View}
 use Rattle.ft_trace.specs.Addresses.{container_count, class_of, slots}
 use Rattle.ft_trace.specs.Kinds.{rows}
 use Rattle.ft_trace.specs.Pictures.{entry_offset, item_offset, walk_of}
 use Rattle.ft_trace.specs.ContainerStates.{first_writes, kind_in, reply_in}
-use Rattle.ft_trace.specs.LoggedReads.{Among}
-use Rattle.ft_trace.specs.LoggedLookUps.{Hit, Miss, Full, Bare, ItemHit, ItemPast}
+use Rattle.ft_trace.specs.LoggedLookUps.{Hit, Miss, Full, Bare, ItemHit, ItemPast, IsReadAt}
 use Rattle.ft_trace.specs.Traces.{Event, history, Valid}
 use Rattle.ft_trace.specs.TraceLaws.{HasView}
+use Rattle.ft_trace.specs.HeldReads.{IsEntryReadHeld, IsItemReadHeld}
 
 -- ---- what was read
 
--- the value's words of the entry at this place were read among these: its kind and its payload
+-- the value of the entry at this place was read among these: its kind and its payload
 abbrev pub IsValueRead : ℕ → ℕ → ℕ → ℕ → List Act → Type 0
 IsValueRead t place kind payload mid =
-    Among (ReadTable t (entry_offset (slots (class_of t)) place 4) kind) mid
-    × Among (ReadTable t (entry_offset (slots (class_of t)) place 5) payload) mid
+    IsReadAt t (entry_offset (slots (class_of t)) place 4) (entry_offset (slots (class_of t)) place 5) kind payload mid
 
--- the words of the item at this place were read among these
+-- the value of the item at this place was read among these
 abbrev pub IsItemRead : ℕ → ℕ → ℕ → ℕ → List Act → Type 0
-IsItemRead t place kind payload mid =
-    Among (ReadTable t (item_offset place 1) kind) mid × Among (ReadTable t (item_offset place 2) payload) mid
+IsItemRead t place kind payload mid = IsReadAt t (item_offset place 1) (item_offset place 2) kind payload mid
 
 -- the slots of the key's probe were passed, up to one that was never used or all of them
 abbrev pub IsAbsent : Shape → List Act → ℕ → ℕ → Key → ℕ → Type 0
@@ -82,6 +79,7 @@ DictHitsAreReplied =
     → HasView k es j u → (h : Hit u.log o t place key n)
     → (reply_in (stored_at k es n) (call.Dict o (dict.Has key)) ≡ reply.Truth true)
     × ((kind payload : ℕ) → IsValueRead t place kind payload h.mid
+    ⊎ IsEntryReadHeld k u.log o t place key n h kind payload
     → (value : Value) × IsStored kind payload (Plain value) × DictReplies (stored_at k es n) o key (Some value))
 
 -- a key that was found in a set is there at the stamp
@@ -106,7 +104,8 @@ abbrev pub ItemsAreReplied : Type 0
 ItemsAreReplied =
     (k : Shape) (es : List Event) → Valid k es → (o t place n : ℕ) → o < container_count k
     → kind_in k.starts o ≡ kind.List → place < rows kind.List (class_of t) → (j : ℕ) (u : View) → HasView k es j u
-    → (h : ItemHit u.log o t place n) (kind payload : ℕ) → IsItemRead t place kind payload h.mid
+    → (h : ItemHit u.log o t place n) (kind payload : ℕ)
+    → IsItemRead t place kind payload h.mid ⊎ IsItemReadHeld k u.log o t place n h kind payload
     → ((value : Value) × IsStored kind payload (Plain value)
     × (reply_in (stored_at k es n) (call.List o (list.Get (pos place))) ≡ item_reply (Some value)))
     ⊎ (IsStored kind payload Empty

@@ -14,9 +14,11 @@ use Rattle.ft_trace.specs.declared.View.{View}
 use Rattle.ft_trace.specs.Addresses.{class_of, slots, IsTableName}
 use Rattle.ft_model.specs.Classes.{set_entries}
 use Rattle.ft_trace.specs.Acts.{owes, stage}
-use Rattle.ft_trace.specs.Pictures.{entry_offset, entry_field}
+use Rattle.ft_trace.specs.Pictures.{entry_offset, entry_field, root_in}
 use Rattle.ft_trace.specs.Carefuls.{HasLiveKey}
-use Rattle.ft_trace.specs.Holds.{known_state, in_hand}
+use Rattle.ft_trace.specs.Holds.{held_words, known_state, hand_unboxed}
+use Rattle.ft_trace.specs.declared.Act.TheVariants.{PutRoot}
+use Rattle.ft_trace.specs.Boxes.{HasReferences}
 use Rattle.ft_trace.specs.Traces.{IsReachable}
 use Rattle.ft_trace.specs.WholeWrites.{to_table, WholeWrite, at_commit, after_write_of, MayBegin}
 use Rattle.ft_trace.specs.KeyWrites.{count_puts}
@@ -38,17 +40,18 @@ set_grow_write v o t place key elements =
 pub record HasSetGrown (v : View) (o t place : ℕ) (key : Key) (elements : SetContent) : Type 0 where
   pub table : IsTableName v.shape t
   pub fresh : stage t v.log ≡ 1
+  pub references : HasReferences v.shape v.log (PutRoot o (suc t) (root_in (held_words o v))) o
   pub owed : owes v.log ≡ suc (class_of t)
   pub fits : FitsKey key
   pub missing : has_element elements.elements key ≡ false
   pub takes : set_takes (known_state o v).table elements (set_add elements key) ≡ Some (class_of t)
   pub words : IsSetWords v.shape.texts (at_commit v o (set_grow_write v o t place key elements)).block
-      (0 ∷ 0 ∷ in_hand t v) (Some (class_of t)) (length elements.elements + 1) (set_add elements key)
+      (0 ∷ 0 ∷ hand_unboxed o t v) (Some (class_of t)) (length elements.elements + 1) (set_add elements key)
   pub low : place < set_entries (class_of t)
-  pub live : HasLiveKey (slots (class_of t)) (in_hand t v) place key
-  pub open_entry : entry_field (slots (class_of t)) (in_hand t v) place 0 ≡ 1
+  pub live : HasLiveKey (slots (class_of t)) (hand_unboxed o t v) place key
+  pub open_entry : entry_field (slots (class_of t)) (hand_unboxed o t v) place 0 ≡ 1
   pub others : (p : ℕ) → p < set_entries (class_of t) → p ≢ place
-      → entry_field (slots (class_of t)) (in_hand t v) p 0 ≡ 0
+      → entry_field (slots (class_of t)) (hand_unboxed o t v) p 0 ≡ 0
 
 -- a pass with the lock of a set that has such a table in hand may put it in the root and add the key, whatever other
 -- passes have done

@@ -15,7 +15,7 @@ use Rattle.ft_trace.specs.declared.View.{View}
 use Rattle.ft_trace.specs.Addresses.{class_of, slots}
 use Rattle.ft_trace.specs.Pictures.{index_field, entry_offset, entry_field, root_in}
 use Rattle.ft_trace.specs.Carefuls.{HasLiveKey}
-use Rattle.ft_trace.specs.Holds.{held_words, known_state}
+use Rattle.ft_trace.specs.Holds.{held_words, held_unboxed, known_state}
 use Rattle.ft_trace.specs.Traces.{IsReachable}
 use Rattle.ft_trace.specs.Grants.{MayWrite}
 use Rattle.ft_trace.specs.WholeWrites.{Put, to_block, to_table, WholeWrite, at_commit, after_write_of}
@@ -41,11 +41,11 @@ set_add_write v o t slot key elements =
     record {
       root = None;
       early = count_puts (length elements.elements + 1) ((known_state o v).table.fill + 1) (elements.next + 1)
-          ++ element_puts (slots (class_of t)) (held_words o v).table (known_state o v).table.fill slot
+          ++ element_puts (slots (class_of t)) (held_unboxed o v).table (known_state o v).table.fill slot
           (hash_of v.shape.texts key) key elements.next;
       call = call.Set o (set.Add key);
       reply = reply.Done;
-      late = entry_closed (slots (class_of t)) (held_words o v).table (known_state o v).table.fill;
+      late = entry_closed (slots (class_of t)) (held_unboxed o v).table (known_state o v).table.fill;
     }
 
 -- a pass with the lock of a set whose table has room may add a key, whatever other passes have done, where the index
@@ -55,7 +55,7 @@ ElementsMayBeAdded =
     (v : View) (o t slot : ℕ) (key : Key) (elements : SetContent) → MayWrite v o
     → (known_state o v).content ≡ content.Set elements → root_in (held_words o v) ≡ suc t
     → (known_state o v).table.fill < set_entries (class_of t) → slot < slots (class_of t)
-    → index_field (held_words o v).table slot ≡ 0 → FitsKey key → has_element elements.elements key ≡ false
+    → index_field (held_unboxed o v).table slot ≡ 0 → FitsKey key → has_element elements.elements key ≡ false
     → IsSetWords v.shape.texts (at_commit v o (set_add_write v o t slot key elements)).block
     (0 ∷ 0 ∷ (at_commit v o (set_add_write v o t slot key elements)).table) (Some (class_of t))
     ((known_state o v).table.fill + 1) (set_add elements key)
@@ -68,10 +68,10 @@ set_discard_write v o t place key elements =
     record {
       root = None;
       early = to_block 1 (length elements.elements - 1)
-          ∷ delete_puts (slots (class_of t)) (held_words o v).table place key;
+          ∷ delete_puts (slots (class_of t)) (held_unboxed o v).table place key;
       call = call.Set o (set.Discard key);
       reply = reply.Done;
-      late = entry_closed (slots (class_of t)) (held_words o v).table place;
+      late = entry_closed (slots (class_of t)) (held_unboxed o v).table place;
     }
 
 -- a pass with the lock of a set may take out a key that is there, whatever other passes have done, where the words that
@@ -81,7 +81,7 @@ ElementsMayBeDiscarded =
     (v : View) (o t place : ℕ) (key : Key) (elements : SetContent) → MayWrite v o
     → (known_state o v).content ≡ content.Set elements → root_in (held_words o v) ≡ suc t
     → place < set_entries (class_of t)
-    → HasLiveKey (slots (class_of t)) (held_words o v).table place key → FitsKey key
+    → HasLiveKey (slots (class_of t)) (held_unboxed o v).table place key → FitsKey key
     → IsSetWords v.shape.texts (at_commit v o (set_discard_write v o t place key elements)).block
     (0 ∷ 0 ∷ (at_commit v o (set_discard_write v o t place key elements)).table) (Some (class_of t))
     (known_state o v).table.fill (set_discard elements key)

@@ -6,7 +6,8 @@ use Rattle.ft_trace.specs.declared.View.{View}
 use Rattle.ft_trace.specs.Acts.{stage}
 use Rattle.ft_trace.specs.Addresses.{block, class_of, container_count, tables_in}
 use Rattle.ft_trace.specs.Ages.{age}
-use Rattle.ft_trace.specs.Counts.{sum_to, word_bits}
+use Rattle.ft_trace.specs.Sums.{sum_to}
+use Rattle.ft_trace.specs.Counts.{word_bits}
 use Rattle.ft_trace.specs.Entries.{total}
 use Rattle.ft_trace.specs.Traces.{Event, run, word, Valid}
 

@@ -20,7 +20,8 @@ use Rattle.ft_layout.specs.Words.{FitsKey}
 use Rattle.ft_trace.specs.declared.Act.{Act}
 use Rattle.ft_trace.specs.declared.Snap.{Snap}
 use Rattle.ft_trace.specs.Causes.{FoundEmpty, least_stamp}
-use Rattle.ft_trace.specs.declared.Act.TheVariants.{Commit, Answer, AnswerCursor, ReadCounter, ReadRoot, ReadTable, ReadCount, PutRoot}
+use Rattle.ft_trace.specs.declared.Act.TheVariants.{Commit, Answer, AnswerCursor, ReadCounter, ReadRoot, ReadTable, ReadCount, PutRoot, ReadBox}
+use Rattle.ft_layout.specs.Starts.{kind_word, payload_word}
 use Rattle.ft_trace.specs.declared.Shape.{Shape}
 use Rattle.ft_trace.specs.declared.View.{View}
 use Rattle.ft_trace.specs.Bits.{bit}
@@ -37,7 +38,7 @@ use Rattle.ft_trace.specs.Kinds.{rows, is_key, pair_words, element_words, under,
 use Rattle.ft_trace.specs.Holds.{held_words, known_state, in_hand}
 use Rattle.ft_trace.specs.FitCalls.{FitsContent}
 use Rattle.ft_trace.specs.LoggedReads.{Among, IsNothing, LookedAtOne, LookedAtBoth}
-use Rattle.ft_trace.specs.LoggedLookUps.{Hit, Miss, Full, Bare, ItemHit, ItemPast, IsNew}
+use Rattle.ft_trace.specs.LoggedLookUps.{Hit, Miss, Full, Bare, ItemHit, ItemPast, IsNew, IsReadInPlace, IsReadAsBox}
 use Rattle.ft_trace.specs.Traces.{Event, did, run, word, history, StandsFor, SoundFor, ShutFor, IsAllShut, Valid, Knows}
 
 -- the pass at seat j knows u
@@ -179,14 +180,16 @@ ZeroRootsHaveNothing =
     (k : Shape) (es : List Event) → Valid k es → (o : ℕ) → o < container_count k → word k es (version_of o) % 2 ≡ 0
     → word k es (block o 0) ≡ 0 → IsNothing (container_after k.starts (history es) o)
 
--- a pass knows the words and the content of a container whose lock it has, and the words of a table fresh in its hand
+-- a pass knows the words and the content of a container whose lock it has, and the words of a table in its hand that is
+-- fresh, or that it took out of a root and hasn't retired
 abbrev pub HoldersKnow : Type 0
 HoldersKnow =
     (v : View) (es : List Event) (j : ℕ) → Knows v es j
     → ((o : ℕ) → o < container_count v.shape → has_lock o v.log ≡ true
     → (held_words o v ≡ picture v.shape o (run v.shape es).words)
     × (known_state o v ≡ container_after v.shape.starts (history es) o))
-    × ((t : ℕ) → IsTableName v.shape t → stage t v.log ≡ 1 → in_hand t v ≡ table_words v.shape t (run v.shape es).words)
+    × ((t : ℕ) → IsTableName v.shape t → (stage t v.log ≡ 1) ⊎ (stage t v.log ≡ 3)
+    → in_hand t v ≡ table_words v.shape t (run v.shape es).words)
 
 -- ---- tables
 
@@ -295,7 +298,8 @@ TableWordsStay =
     → LaterAs (kind_in k.starts o) (class_of t) (table_words k t (run k older).words) (table_words k t (run k (newer
     ++ older)).words)
 
--- a key that was found is there at the stamp, with the words that were read of it
+-- A key that was found is there at the stamp, with the words that were read of it: those of a value where it names no
+-- box, else those that were read in the box.
 abbrev pub HitsAreRight : Type 0
 HitsAreRight =
     (k : Shape) (es : List Event) → Valid k es → (o t p : ℕ) (key : Key) (n : ℕ) → o < container_count k
@@ -304,7 +308,14 @@ HitsAreRight =
     → (n ≤ word k es counter)
     × (under (container_after k.starts (first_writes n (history es)) o).content key ≢ [])
     × ((w f : ℕ) → w < 3 → Among (ReadTable t (entry_offset (slots (class_of t)) p (4 + w)) f) h.mid
+    → (w ≡ 2) ⊎ IsReadInPlace t (entry_offset (slots (class_of t)) p 4) h.mid
     → slice_index (under (container_after k.starts (first_writes n (history es)) o).content key) w ≡ f)
+    × ((b f : ℕ)
+    → IsReadAsBox t (entry_offset (slots (class_of t)) p 4) (entry_offset (slots (class_of t)) p 5) b h.mid
+    → (Among (ReadBox b kind_word f) h.mid
+    → slice_index (under (container_after k.starts (first_writes n (history es)) o).content key) 0 ≡ f)
+    × (Among (ReadBox b payload_word f) h.mid
+    → slice_index (under (container_after k.starts (first_writes n (history es)) o).content key) 1 ≡ f))
 
 -- a key that fits its words is absent at the stamp that was not found on its probe, up to a slot never used or over all
 -- its slots
@@ -325,14 +336,20 @@ BareRootsAreRight =
     → HasView k es j u
     → Bare u.log o n → (n ≤ word k es counter) × IsNothing (container_after k.starts (first_writes n (history es)) o)
 
--- an item that was read is the list's at the stamp
+-- an item that was read is the list's at the stamp, in the same way
 abbrev pub ItemsAreRight : Type 0
 ItemsAreRight =
     (k : Shape) (es : List Event) → Valid k es → (o t p n : ℕ) → o < container_count k → IsItems (kind_in k.starts o)
     → p < slots (class_of t) → (j : ℕ) (u : View) → HasView k es j u → (h : ItemHit u.log o t p n)
     → (n ≤ word k es counter)
     × ((w f : ℕ) → w < 2 → Among (ReadTable t (item_offset p (1 + w)) f) h.mid
+    → IsReadInPlace t (item_offset p 1) h.mid
     → slice_index (words_at (list_of (container_after k.starts (first_writes n (history es)) o).content) p) w ≡ f)
+    × ((b f : ℕ) → IsReadAsBox t (item_offset p 1) (item_offset p 2) b h.mid
+    → (Among (ReadBox b kind_word f) h.mid
+    → slice_index (words_at (list_of (container_after k.starts (first_writes n (history es)) o).content) p) 0 ≡ f)
+    × (Among (ReadBox b payload_word f) h.mid
+    → slice_index (words_at (list_of (container_after k.starts (first_writes n (history es)) o).content) p) 1 ≡ f))
 
 -- at the stamp a list is no longer than the table that its root named
 abbrev pub ListsFitTheirTables : Type 0

@@ -1,6 +1,6 @@
 -- A trace is a list of events, newest first. It gives the words and the views, and it is valid where each event's
 -- condition held where it stands.
-use Rattle.std.specs.Prelude.{◌≡◌, ◌≢◌, ◌⊎◌, ℕ, suc, ◌+◌, ◌*◌, ◌^◌, ◌<◌, ◌≤◌, Bool, true, false, List, [], ◌∷◌, ◌++◌, slice_index, slice_set}
+use Rattle.std.specs.Prelude.{◌≡◌, ◌≢◌, ◌⊎◌, ℕ, suc, ◌+◌, ◌*◌, ◌/◌, ◌^◌, ◌<◌, ◌≤◌, Bool, true, false, List, [], ◌∷◌, ◌++◌, slice_index, slice_set}
 use mathlib.Core.Option.{some}
 use lib.ListN.{get_elem?}
 use Rattle.std.specs.Prelude.{Some, None}
@@ -15,20 +15,24 @@ use Rattle.ft_model.specs.TableUses.{stored_newest, takes_in, would_pass}
 use Rattle.ft_model.specs.Classes.{IsClass}
 use Rattle.ft_model.specs.Landed.{AreLanded}
 use Rattle.ft_trace.specs.declared.Act.{Act}
-use Rattle.ft_trace.specs.declared.Act.TheVariants.{Lock, Unlock, StartWrite, PutBlock, PutRoot, PutTable, PutFresh, PutHeader, ReadHeader, Commit, StopWrite, Version, ReadBlock, ReadRoot, ReadTable, ReadCounter, Answer, AnswerCursor, LowerCount, RaiseCount, ReadCount, ReadFree, TakeTable, GiveTable, Retire, Announce, ReadAnnounced, WriteNumber, TakeFloor, TookOver}
+use Rattle.ft_trace.specs.declared.Act.TheVariants.{Lock, Unlock, StartWrite, PutBlock, PutRoot, PutTable, PutFresh, PutHeader, ReadHeader, Commit, StopWrite, Version, ReadBlock, ReadRoot, ReadTable, ReadCounter, Answer, AnswerCursor, LowerCount, RaiseCount, ReadCount, ReadFree, TakeTable, GiveTable, Retire, Announce, ReadAnnounced, WriteNumber, TakeFloor, TookOver, ReadFreePlaces, TakePlace, PutBox, PublishBox, ReadBox, RaiseLocal, DropLocal, ClearLocal, MergeCounts, RaiseShared, RaiseKept, DropShared, GivePlace}
 use Rattle.ft_trace.specs.declared.Shape.{Shape}
 use Rattle.ft_trace.specs.declared.Snap.{Snap}
 use Rattle.ft_trace.specs.declared.View.{View}
-use Rattle.ft_trace.specs.Addresses.{Word, counter, write_number, version_of, container_count, tables_in, class_of, size, IsTableName, at, opening}
+use Rattle.ft_trace.specs.Addresses.{Word, counter, write_number, version_of, container_count, tables_in, class_of, size, IsTableName, IsBoxName, maker_of, at, opening}
 use Rattle.ft_trace.specs.Acts.{place, word_after, Reports, has_lock, is_writing, has_committed, has_emptied, stage, goal, announces, clear, used, debt, flight, owes, view_after, starter, maker, made, both, spent, sender, note}
 use Rattle.ft_trace.specs.ContainerStates.{container_after, first_writes, kind_in, changes, may_empty, reply_in}
-use Rattle.ft_trace.specs.Pictures.{table_words, root_of, picture, Represents}
+use Rattle.ft_trace.specs.Pictures.{table_words, root_of, Represents}
 use Rattle.ft_trace.specs.Kinds.{rows, version_at, SoundAs, CarefulAs, ClearAs, HasVersions}
 use Rattle.ft_trace.specs.OddVersions.{Shut, Timely, Low}
+use Rattle.ft_trace.specs.Unboxed.{unboxed_words, unboxed_picture}
+use Rattle.ft_trace.specs.Boxes.{made_state, local_count, taken_out, place_to_give, references_held, HasPutValue, HasReferences, KeepsBox, IsDoneWithBoxes, state_default, state_making}
 use Rattle.ft_trace.specs.FitCalls.{FitsCall}
 use Rattle.ft_trace.specs.Causes.{Loaded, HasCause}
 use Rattle.ft_trace.specs.Hands.{cursor_in, MovesCursor}
 use Rattle.ft_trace.specs.BegunSections.{HasLocksOf}
+use Rattle.ft_layout.specs.Starts.{box_size, shared_word}
+use Rattle.ft_trace.specs.BoxWords.{count_unit, dead_word, merged_bits}
 
 pub record Moment : Type 0 where
   pub words : List ℕ
@@ -81,23 +85,24 @@ history (forked id v ∷ es) = history es
 history (joined id v other w ∷ es) = history es
 history (sent id v given ∷ es) = history es
 
--- the words of o stand for what the history makes of it
+-- the words of o, read through boxes, stand for what the history makes of it
 abbrev pub StandsFor : Shape → Moment → List Call → ℕ → Type 0
-StandsFor k m cs o = Represents k.texts (picture k o m.words) (container_after k.starts cs o)
+StandsFor k m cs o = Represents k.texts (unboxed_picture k o m.words) (container_after k.starts cs o)
 
 abbrev pub snap : Moment → List Call → Snap
 snap m cs = record { words = m.words; calls = cs }
 
--- of the table t, while it is that of the container o or is to be
+-- of the words of the table t as they read, while it is that of the container o or is to be
 abbrev pub SoundFor : Shape → List ℕ → ℕ → ℕ → Content → Type 0
-SoundFor k ws o t c = SoundAs (kind_in k.starts o) k.texts (class_of t) (table_words k t ws) c
+SoundFor k ws o t c = SoundAs (kind_in k.starts o) k.texts (class_of t) (unboxed_words k o t ws) c
 
 abbrev pub CarefulFor : Shape → List ℕ → ℕ → ℕ → Content → ℕ → ℕ → Type 0
-CarefulFor k ws o t c i x = CarefulAs (kind_in k.starts o) (class_of t) (table_words k t ws) c i x
+CarefulFor k ws o t c i x = CarefulAs (kind_in k.starts o) (class_of t) (unboxed_words k o t ws) c i x
 
 abbrev pub ClearFor : Shape → List ℕ → ℕ → ℕ → Content → Content → Type 0
-ClearFor k ws o t c d = ClearAs (kind_in k.starts o) k.texts (class_of t) (table_words k t ws) c d
+ClearFor k ws o t c d = ClearAs (kind_in k.starts o) k.texts (class_of t) (unboxed_words k o t ws) c d
 
+-- and of its words as they stand
 abbrev pub ShutFor : Shape → List ℕ → ℕ → ℕ → Type 0
 ShutFor k ws o t =
     Shut (version_at (kind_in k.starts o) (class_of t)) (rows (kind_in k.starts o) (class_of t)) (table_words k t ws)
@@ -141,6 +146,7 @@ May k m cs v (PutRoot o r old) =
     × (old ≢ 0 → used v.log ≡ false)
     × ((t : ℕ) → r ≡ suc t → LowFor k m.words o t (word_in k m counter) (has_committed o v.log))
     × (r ≡ 0 → has_committed o v.log ≡ false)
+    × HasReferences k v.log (PutRoot o r old) o
     × ((t : ℕ) → r ≡ suc t → has_committed o v.log ≡ true → ShutFor k m.words o t)
 -- a word of the table that the root names, put with care; a version is made odd before the commit, and even after it
 May k m cs v (PutTable o t i x) =
@@ -151,6 +157,7 @@ May k m cs v (PutTable o t i x) =
     × (root_of k o m.words ≡ suc t)
     × CarefulFor k m.words o t (container_after k.starts cs o).content i x
     × TimelyFor k o t i x (has_committed o v.log)
+    × HasReferences k v.log (PutTable o t i x) o
 -- a word of a table that it took and that has stood in no root since
 May k m cs v (PutFresh t i x) = IsTableName k t × (i < size (class_of t)) × (stage t v.log ≡ 1)
 -- the goal of a table that it retired
@@ -244,6 +251,44 @@ May k m cs v (ReadAnnounced p f) = (p ≤ k.passes) × (0 < p) × (p ≤ 64)
 May k m cs v (WriteNumber f) = Unit {0}
 -- it has all tokens, so no other pass may do anything
 May k m cs v (TakeFloor f s) = (v.tokens ≡ k.passes) × (s ≡ snap m cs)
+-- a word of bits of a heap, and a word of a box
+May k m cs v (ReadFreePlaces q w f) = (q < k.passes) × (w < k.heap / 64)
+May k m cs v (ReadBox b i f) = IsBoxName k b × (i < box_size)
+-- a place of its own heap, where it keeps no box that wasn't merged
+May k m cs v (TakePlace b f) =
+    IsBoxName k b × (v.number ≡ suc (maker_of b)) × (made_state b v.log ≢ state_making)
+    × (made_state b v.log ≢ state_default)
+-- a box that it is making
+May k m cs v (PutBox b i x) = IsBoxName k b × (i < box_size) × (made_state b v.log ≡ state_making) × (i ≢ shared_word)
+-- with local count 1, once it has put a value there
+May k m cs v (PublishBox b) =
+    IsBoxName k b × (made_state b v.log ≡ state_making) × (local_count b v.log ≡ 1)
+    × (references_held k b v.log + 1 < 2 ^ 32) × HasPutValue k b v.log
+-- its own box in the default state
+May k m cs v (RaiseLocal b x) =
+    IsBoxName k b
+    × (made_state b v.log ≡ state_default)
+    × (x ≡ local_count b v.log + 1)
+    × (x ≤ 2 ^ 60)
+    × (taken_out b v.log ≡ 0)
+    × (references_held k b v.log + 1 < 2 ^ 32)
+May k m cs v (DropLocal b x) =
+    IsBoxName k b × (made_state b v.log ≡ state_default) × (local_count b v.log ≡ x + 1)
+    × (0 < references_held k b v.log)
+May k m cs v (ClearLocal b) = IsBoxName k b × (made_state b v.log ≡ state_default) × (taken_out b v.log ≡ 0)
+May k m cs v (MergeCounts b d f) =
+    IsBoxName k b × (made_state b v.log ≡ state_default) × (local_count b v.log ≡ 0)
+    × (d ≡ count_unit * taken_out b v.log + merged_bits)
+-- any other box, from a word that isn't that of a dead one
+May k m cs v (RaiseShared b old f) =
+    IsBoxName k b × (made_state b v.log ≢ state_default) × (old ≢ dead_word) × (old < 2 ^ 64)
+    × (references_held k b v.log + 1 < 2 ^ 32)
+-- one that a container names whose lock it has, or for which it holds a reference
+May k m cs v (RaiseKept b f) =
+    IsBoxName k b × (made_state b v.log ≢ state_default) × KeepsBox k b v.log × (references_held k b v.log + 1 < 2 ^ 32)
+May k m cs v (DropShared b f) = IsBoxName k b × (made_state b v.log ≢ state_default) × (0 < references_held k b v.log)
+-- of a box that it has brought to its end
+May k m cs v (GivePlace b) = IsBoxName k b × (place_to_give b v.log ≡ 1)
 -- this is part of a join alone
 May k m cs v (TookOver tables had found told) = ⊥
 
@@ -253,6 +298,7 @@ pub record Fits (k : Shape) : Type 0 where
   pub passes : k.passes ≤ 64
   pub tables : (c : ℕ) → IsClass c → tables_in k c ≤ 1024
   pub landed : AreLanded k.starts
+  pub containers : container_count k ≤ 256
 
 -- The pass is offline and has no lock. It has no table but such as it retired, which who takes it in takes over, where
 -- their goals stand in their headers. It has committed what it began, and is in the midst of no taking or giving.
@@ -264,6 +310,7 @@ IsFree v =
     × (flight v.log ≡ 0)
     × (owes v.log ≡ 0)
     × (announces v.log ≡ 0)
+    × IsDoneWithBoxes v.shape v.log
 
 -- the pass writes no container, has no fresh table in hand, and is in the midst of no taking or giving
 abbrev pub IsQuiet : View → Type 0

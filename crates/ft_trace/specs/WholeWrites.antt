@@ -1,6 +1,7 @@
 -- A whole write of one container by a pass that has its lock, in pieces: a root that is put, puts before the commit,
 -- the commit, and puts after it. Which words it may put is said of the words and the content that the pass knows alone.
-use Rattle.std.specs.Prelude.{◌≡◌, ℕ, zero, suc, ◌*◌, ◌^◌, ◌<◌, ◌≤◌, Bool, true, false, List, [], ◌∷◌, Option, Some, None, slice_index, slice_set}
+-- The words are those that the container reads through boxes; a value that is put stands in place, or in a box.
+use Rattle.std.specs.Prelude.{◌≡◌, ◌≢◌, ℕ, zero, suc, ◌-◌, ◌*◌, ◌^◌, ◌%◌, ◌<◌, ◌≤◌, ◌==◌, Bool, true, false, cond, List, [], ◌∷◌, Option, Some, None, slice_index, slice_set}
 use Rattle.ft_model.specs.declared.call.Call.{Call}
 use Rattle.ft_model.specs.declared.reply.Reply.{Reply}
 use Rattle.ft_model.specs.declared.content.Content.{Content}
@@ -11,6 +12,7 @@ use Rattle.ft_model.specs.Worlds.{no_hands, IsDeclared}
 use Rattle.ft_model.specs.TableUses.{stored_newest, takes_in, would_pass}
 use Rattle.ft_trace.specs.declared.Act.{Act}
 use Rattle.ft_trace.specs.declared.Act.TheVariants.{StartWrite, PutRoot, PutBlock, PutTable, Commit, StopWrite, Unlock}
+use Rattle.ft_trace.specs.declared.Shape.{Shape}
 use Rattle.ft_trace.specs.declared.Snap.{Snap}
 use Rattle.ft_trace.specs.declared.View.{View}
 use Rattle.ft_trace.specs.Addresses.{container_count, class_of, size, IsTableName}
@@ -21,37 +23,55 @@ use Rattle.ft_trace.specs.Kinds.{rows, version_at, SoundAs, CarefulAs, ClearAs}
 use Rattle.ft_trace.specs.FitCalls.{FitsCall}
 use Rattle.ft_trace.specs.BegunSections.{HasLocksOf}
 use Rattle.ft_trace.specs.OddVersions.{Shut, Timely}
-use Rattle.ft_trace.specs.Holds.{held_words, known_state, in_hand, AgreesWith}
+use Rattle.ft_trace.specs.Holds.{held_words, held_unboxed, known_state, hand_unboxed, AgreesWith}
+use Rattle.ft_trace.specs.BoxWords.{box_kind}
+use Rattle.ft_layout.specs.Starts.{kind_word, payload_word}
+use Rattle.ft_trace.specs.Boxes.{value_at, known_box_word, knows_box_word, references_held, HasReferences}
+use Rattle.ft_trace.specs.Unboxed.{unboxed_table}
 use Rattle.ft_trace.specs.Traces.{IsReachable, IsAwake}
 
 -- ---- puts
 
--- a word of the block, as `PutBlock` names it, or of the table, and what it becomes
+-- a word of the block, as `PutBlock` names it, or of the table that is no value's, and what it becomes; or the two
+-- words of a value in the table, its kind and its payload, and what they become: the value itself, or what names the
+-- box in which it stands
 pub data Put : Type 0 where
   to_block : ℕ → ℕ → Put
   to_table : ℕ → ℕ → Put
+  to_value : Option ℕ → ℕ → ℕ → ℕ → ℕ → Put
 
--- as an action on the container o, whose table is t
-abbrev pub act_of : ℕ → ℕ → Put → Act
-act_of o t (to_block i x) = PutBlock o i x
-act_of o t (to_table i x) = PutTable o t i x
+-- the log after a put into the container o, whose table is t; of a value the kind is put first, and the payload first
+-- where the value stands in a box, so that no word names a box by accident
+abbrev pub log_of_put : ℕ → ℕ → Put → List Act → List Act
+log_of_put o t (to_block i x) log = PutBlock o i x ∷ log
+log_of_put o t (to_table i x) log = PutTable o t i x ∷ log
+log_of_put o t (to_value None i j kind payload) log = PutTable o t j payload ∷ PutTable o t i kind ∷ log
+log_of_put o t (to_value (Some b) i j kind payload) log = PutTable o t i box_kind ∷ PutTable o t j b ∷ log
 
 -- the log after these puts, the first of them first
 abbrev pub log_of : ℕ → ℕ → List Put → List Act → List Act
 log_of o t [] log = log
-log_of o t (put ∷ puts) log = log_of o t puts (act_of o t put ∷ log)
+log_of o t (put ∷ puts) log = log_of o t puts (log_of_put o t put log)
 
--- what they leave of the container's words
+-- what they leave of the container's words, as these read
 abbrev pub with_put : ContainerWords → Put → ContainerWords
 with_put words (to_block i x) = record { block = slice_set words.block i x; table = words.table }
 with_put words (to_table i x) = record { block = words.block; table = slice_set words.table i x }
+with_put words (to_value box i j kind payload) =
+    record { block = words.block; table = slice_set (slice_set words.table i kind) j payload }
 
 abbrev pub with_puts : ContainerWords → List Put → ContainerWords
 with_puts words [] = words
 with_puts words (put ∷ puts) = with_puts (with_put words put) puts
 
+-- the word of a table is none of the two words of a value
+abbrev pub IsNoValue : Kind → ℕ → ℕ → Type 0
+IsNoValue kind class i =
+    (q : ℕ) → q < rows kind class → (i ≢ value_at kind class q) × (i ≢ suc (value_at kind class q))
+
 -- A put into the block is of another word than the root. One into the table is careful for readers without the lock,
--- and a version is made odd before the commit and even after it.
+-- and a version is made odd before the commit and even after it. A value is put while the version of its entry or item
+-- is odd, in a box before the commit alone; and what is put, or stands in the box, names no box itself.
 abbrev pub MayPut : Kind → ℕ → Content → Bool → ContainerWords → Put → Type 0
 MayPut kind t content committed words (to_block i x) = (0 < i) × (i < 6)
 MayPut kind t content committed words (to_table i x) =
@@ -59,12 +79,44 @@ MayPut kind t content committed words (to_table i x) =
     × (i < size (class_of t))
     × CarefulAs kind (class_of t) words.table content i x
     × Timely (version_at kind (class_of t)) (rows kind (class_of t)) i x committed
+    × IsNoValue kind (class_of t) i
+MayPut kind t content committed words (to_value box i j put_kind payload) =
+    (root_in words ≡ suc t)
+    × ((p : ℕ) × (p < rows kind (class_of t))
+    × (i ≡ value_at kind (class_of t) p)
+    × (j ≡ suc (value_at kind (class_of t) p))
+    × (slice_index words.table (version_at kind (class_of t) p) % 2 ≡ 1))
+    × (put_kind ≢ box_kind)
+    × (committed ≡ true → box ≡ None)
 
 -- each of them, after the ones before it
 abbrev pub MayPuts : Kind → ℕ → Content → Bool → ContainerWords → List Put → Type 0
 MayPuts kind t content committed words [] = Unit {0}
 MayPuts kind t content committed words (put ∷ puts) =
     MayPut kind t content committed words put × MayPuts kind t content committed (with_put words put) puts
+
+-- ---- boxes for the values that are put
+
+-- A value that is put in a box needs a reference for that box, of those that the pass has to spare, and the pass knows
+-- that the box has the value.
+abbrev pub HasBox : Shape → List Act → (ℕ → ℕ) → Option ℕ → ℕ → ℕ → Type 0
+HasBox k log spare None kind payload = Unit {0}
+HasBox k log spare (Some b) kind payload =
+    (0 < spare b) × (knows_box_word k b kind_word log ≡ true) × (knows_box_word k b payload_word log ≡ true)
+    × (known_box_word k b kind_word log ≡ kind) × (known_box_word k b payload_word log ≡ payload)
+
+-- how many references it has to spare after that, for each box
+abbrev pub spare_after : Option ℕ → (ℕ → ℕ) → ℕ → ℕ
+spare_after None spare c = spare c
+spare_after (Some b) spare c = cond (c == b) (spare c - 1) (spare c)
+
+-- for each of these puts
+abbrev pub HasBoxes : Shape → List Act → (ℕ → ℕ) → List Put → Type 0
+HasBoxes k log spare [] = Unit {0}
+HasBoxes k log spare (to_block i x ∷ puts) = HasBoxes k log spare puts
+HasBoxes k log spare (to_table i x ∷ puts) = HasBoxes k log spare puts
+HasBoxes k log spare (to_value box i j kind payload ∷ puts) =
+    HasBox k log spare box kind payload × HasBoxes k log (spare_after box spare) puts
 
 -- ---- writes
 
@@ -80,11 +132,20 @@ abbrev pub log_of_root : ℕ → ℕ → Option ℕ → List Act → List Act
 log_of_root o old None log = log
 log_of_root o old (Some root) log = PutRoot o root old ∷ log
 
--- the words of o once this root was put: a table that was fresh in hand is now its own
+-- what the words of o read once this root was put: a table that was fresh in hand is now its own
 abbrev pub with_root_put : View → ℕ → Option ℕ → ContainerWords
-with_root_put v o None = held_words o v
+with_root_put v o None = held_unboxed o v
 with_root_put v o (Some root) =
-    record { block = slice_set (held_words o v).block 0 root; table = inner v.shape root (mem v.shape v.log) }
+    record {
+      block = slice_set (held_words o v).block 0 root;
+      table = unboxed_table (λ b i. known_box_word v.shape b i v.log) (kind_in v.shape.starts o) root
+          (inner v.shape root (mem v.shape v.log));
+    }
+
+-- the references that a pass has to spare for the early puts; those of a write that puts a root are for its table
+abbrev pub spare_references : View → Option ℕ → ℕ → ℕ
+spare_references v None = λ b. references_held v.shape b v.log
+spare_references v (Some root) = λ b. 0
 
 -- the words of o at the commit, and at the end
 abbrev pub at_commit : View → ℕ → WholeWrite → ContainerWords
@@ -129,7 +190,7 @@ after_write_of v o t write start number s stop =
 -- ---- which may be made
 
 -- a pass that has the lock of o may begin to write it: it writes nothing, has a call left, has taken no table out of a
--- root since its last commit, and the bank's calls are few enough for its words
+-- root since its last commit, holds few references, and the bank's calls are few enough for its words
 pub record MayBegin (v : View) (o : ℕ) : Type 0 where
   pub live : IsAwake v
   pub possible : IsReachable v
@@ -139,18 +200,22 @@ pub record MayBegin (v : View) (o : ℕ) : Type 0 where
   pub quiet : (p : ℕ) → is_writing p v.log ≡ false
   pub spare : used v.log ≡ false
   pub room : 0 < v.left
+  pub few_references : (b : ℕ) → references_held v.shape b v.log < 2 ^ 31
 
 -- A root may be put that is 0, for a call that takes away what there is; or one that names a table which is fresh in
--- the pass's hand, as it must be for readers, with versions that were made odd once at most.
+-- the pass's hand, as it must be for readers, with versions that were made odd once at most, and with the references
+-- for the boxes that its values name.
 abbrev pub MayReplace : View → ℕ → Call → Option ℕ → Type 0
 MayReplace v o call None = Unit {0}
 MayReplace v o call (Some zero) = may_empty call ≡ true
 MayReplace v o call (Some (suc t)) =
     IsTableName v.shape t
     × (stage t v.log ≡ 1)
-    × SoundAs (kind_in v.shape.starts o) v.shape.texts (class_of t) (in_hand t v) (known_state o v).content
+    × SoundAs (kind_in v.shape.starts o) v.shape.texts (class_of t) (hand_unboxed o t v)
+    (known_state o v).content
     × ((p : ℕ) → p < rows (kind_in v.shape.starts o) (class_of t)
-    → slice_index (in_hand t v) (version_at (kind_in v.shape.starts o) (class_of t) p) ≤ 1)
+    → slice_index (hand_unboxed o t v) (version_at (kind_in v.shape.starts o) (class_of t) p) ≤ 1)
+    × HasReferences v.shape v.log (PutRoot o (suc t) (root_in (held_words o v))) o
 
 -- The call may be committed after these writes: its reply is that of the plain containers, no content passes its
 -- greatest length, and where a count was lowered it takes a table of that class. What even versions say stays, and what
@@ -179,6 +244,7 @@ pub record MayWriteSo (v : View) (o t : ℕ) (write : WholeWrite) : Type 0 where
   pub root : MayReplace v o write.call write.root
   pub early : MayPuts (kind_in v.shape.starts o) t (known_state o v).content false
       (with_root_put v o write.root) write.early
+  pub boxes : HasBoxes v.shape v.log (spare_references v write.root) write.early
   pub commit : (calls : List Call) → AgreesWith v (stored_newest v.shape.starts calls)
       → MayCommitWrite v o t write calls
   pub shut : (q : ℕ) → root_in (at_end v o write) ≡ suc q

@@ -157,7 +157,7 @@ pub fn zero_roots_have_causes()
 {}
 
 /// A pass knows the words and the content of each container whose lock it has, and the words of each
-/// table that is fresh in its hand.
+/// table in its hand that is fresh, or that it took out of a root and has not retired.
 pub fn holders_know()
     ensures { HoldersKnow }
 {}
@@ -334,7 +334,7 @@ pub fn writes_may_be_made()
     ensures { WritesMayBeMade }
 {}
 
-/// A pass with the lock of a list may put one of its items.
+/// A pass with the lock of a list may put one of its items, in place or in a box for which it holds a reference.
 pub fn items_may_be_put()
     ensures { ItemsMayBePut }
 {
@@ -343,7 +343,7 @@ pub fn items_may_be_put()
     words_follow_a_list();
 }
 
-/// A pass with the lock of a list whose table has room may append an item.
+/// A pass with the lock of a list whose table has room may append an item, in place or in a box.
 pub fn items_may_be_appended()
     ensures { ItemsMayBeAppended }
 {
@@ -360,7 +360,7 @@ pub fn lists_may_grow()
     versions_change_nothing();
 }
 
-/// A pass with the lock of a dict may put another value at a key that is there.
+/// A pass with the lock of a dict may put another value at a key that is there, in place or in a box.
 pub fn values_may_be_put()
     ensures { ValuesMayBePut }
 {
@@ -369,7 +369,7 @@ pub fn values_may_be_put()
     words_follow_a_dict();
 }
 
-/// A pass with the lock of a dict whose table has room may add a key.
+/// A pass with the lock of a dict whose table has room may add a key, with its value in place or in a box.
 pub fn keys_may_be_added()
     ensures { KeysMayBeAdded }
 {

@@ -7,12 +7,12 @@
 //! ```text
 //!     events, newest first                      what they give
 //!
-//!     did 1 (ReadCounter 7)   ──── run ───▶     words   0      1       2..   66..    80..    304..   then
-//!     did 0 (StopWrite d)                              ┌──────┬───────┬─────┬──────┬───────┬───────┬────────┐
-//!     did 0 (Commit ..)                                │ coun-│ write │ an- │ free │ free  │ block │ tables │
-//!     did 1 (ReadTable ..)                             │ ter  │ number│noun-│ table│ tables│ of a  │ class  │
-//!     did 0 (PutTable ..)                              │      │       │ ced │ count│ by bit│ cont. │ by cl. │
-//!     did 0 (StartWrite d)                             └──────┴───────┴─────┴──────┴───────┴───────┴────────┘
+//!     did 1 (ReadCounter 7)   ──── run ───▶     words   0      1       2..   66..    80..    304..   then    then
+//!     did 0 (StopWrite d)                              ┌──────┬───────┬─────┬──────┬───────┬───────┬───────┬────────┐
+//!     did 0 (Commit ..)                                │ coun-│ write │ an- │ free │ free  │ block │ heap  │ tables │
+//!     did 1 (ReadTable ..)                             │ ter  │ number│noun-│ table│ tables│ of a  │ of a  │ class  │
+//!     did 0 (PutTable ..)                              │      │       │ ced │ count│ by bit│ cont. │ pass  │ by cl. │
+//!     did 0 (StartWrite d)                             └──────┴───────┴─────┴──────┴───────┴───────┴───────┴────────┘
 //!     did 0 (Lock d)
 //!     forked 0                ──── run ───▶     views   of pass 0, of pass 1: number, log of its own actions,
 //!     (the start)                                       entries, how many passes it stands for, calls left
@@ -102,6 +102,34 @@ pub enum Act {
     WriteNumber(u64),
     /// Loads the counter and keeps what stands in the bank, by a pass that has all tokens.
     TakeFloor(u64, Snap),
+    /// Loads a word of the bits of a heap: the pass whose heap it is, which word, what was found.
+    ReadFreePlaces(u64, u64, u64),
+    /// Clears the bit of a place: the box, the word of bits that was found.
+    TakePlace(u64, u64),
+    /// Puts the kind, the payload or the local count of a box that is being made: the box, which word, what it
+    /// becomes.
+    PutBox(u64, u64, u64),
+    /// Puts 0 into the shared word of a box that was made.
+    PublishBox(u64),
+    /// Loads a word of a box: the box, which word, what was found.
+    ReadBox(u64, u64, u64),
+    /// Raises the local count of a box: the box, what it becomes.
+    RaiseLocal(u64, u64),
+    /// Lowers the local count of a box: the box, what it becomes.
+    DropLocal(u64, u64),
+    /// Puts 0 into the local count of a box, which begins a merge.
+    ClearLocal(u64),
+    /// Adds to the shared word of a box what was taken out of its local count, and 3: the box, what is added, what
+    /// was found.
+    MergeCounts(u64, u64, u64),
+    /// Raises the shared count of a box: the box, the shared word that it is raised from, and what was found.
+    RaiseShared(u64, u64, u64),
+    /// Raises the shared count of a box that is kept: the box, what was found.
+    RaiseKept(u64, u64),
+    /// Lowers the shared count of a box: the box, what was found.
+    DropShared(u64, u64),
+    /// Sets the bit of a place.
+    GivePlace(u64),
     /// No step of its own: what the pass got when it took in another, the tables that the other kept
     /// retired, the locks that it has had, the owners that it has found, and what it was told.
     TookOver(LinkedList<Handed>, LinkedList<Owner>, LinkedList<Owner>, LinkedList<Told>),
@@ -209,6 +237,7 @@ pub struct View {
     pub told: LinkedList<Told>,
 }
 
+pub mod boxes;
 pub mod laws;
 pub mod notes;
 pub mod order;

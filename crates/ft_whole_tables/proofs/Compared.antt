@@ -6,7 +6,7 @@ use Rattle.ft_model.specs.TableUses.{StoredWorld}
 use Rattle.ft_model.specs.Worlds.{kind_of}
 use Rattle.ft_trace.specs.declared.Shape.{Shape}
 use Rattle.ft_trace.specs.declared.View.{View}
-use Rattle.ft_trace.specs.Holds.{held_words}
+use Rattle.ft_trace.specs.Holds.{held_unboxed}
 use Rattle.ft_trace.specs.Kinds.{IsKeyed}
 use Rattle.ft_trace.specs.Traces.{IsReachable}
 use Rattle.ft_trace.specs.Pictures.{ContainerWords, Represents}
@@ -57,7 +57,7 @@ compared_reply k how o m is_so x y stored is is' stands stands' shows =
 
 -- by a pass that has both locks
 pub compared_shown : (k : Shape) (how : Comparison) (o m : ℕ) (v : View) → v.shape ≡ k → ∥ IsReachable v ∥₁ → MayWriteEntries k o v → MayWriteEntries k m v → kind_in k.starts o ≡ kind_compared how → kind_in k.starts m ≡ kind_compared how
-    → (is_so : Bool) → IsComparedAs k how is_so (held_words o v) (held_words m v) → IsShownBy (compared how o m) (reply.Truth is_so) v
+    → (is_so : Bool) → IsComparedAs k how is_so (held_unboxed o v) (held_unboxed m v) → IsShownBy (compared how o m) (reply.Truth is_so) v
 compared_shown k how o m v shape possible may other is is' is_so shows =
     let plain = compared_plain how o m is_so in
     record {
@@ -65,6 +65,6 @@ compared_shown k how o m v shape possible may other is is' is_so shows =
       cursor = plain.cursor;
       plain = λ stored same. plain.replied (reply_in stored (compared how o m)) (sym same);
       replied = λ stored has.
-          compared_reply k how o m is_so (held_words o v) (held_words m v) stored (had_kind k o v shape possible may stored has ∙ is) (had_kind k m v shape possible other stored has ∙ is') (had_stands k o v shape possible may stored has) (had_stands k m v shape possible other stored has) shows;
+          compared_reply k how o m is_so (held_unboxed o v) (held_unboxed m v) stored (had_kind k o v shape possible may stored has ∙ is) (had_kind k m v shape possible other stored has ∙ is') (had_stands k o v shape possible may stored has) (had_stands k m v shape possible other stored has) shows;
       cause = plain.cause;
     }

@@ -22,7 +22,7 @@ use Rattle.ft_model.specs.TableUses.{StoredWorld}
 use Rattle.ft_model.specs.Worlds.{dict_of, kind_of, set_of}
 use Rattle.ft_trace.specs.declared.Shape.{Shape}
 use Rattle.ft_trace.specs.declared.View.{View}
-use Rattle.ft_trace.specs.Holds.{held_words}
+use Rattle.ft_trace.specs.Holds.{held_unboxed}
 use Rattle.ft_trace.specs.Traces.{IsReachable}
 use Rattle.ft_trace.specs.Pictures.{ContainerWords, Represents, root_in}
 use Rattle.ft_trace.specs.ContainerStates.{state_at, kind_in, reply_in}
@@ -66,10 +66,10 @@ used_reply way.Set used = (filter_map live_key used, refl)
 pub all_of_used : (way : Way) (k : Shape) (t fill : ℕ) (x : ContainerWords) (made : Result Reply AllocError) → root_in x ≡ suc t → fill ≡ slice_index x.block 2 → OfUsed k t (λ used. fill ≡ length used → IsAllOf made (reply_of_used way used)) x → IsAllIn way k made x
 all_of_used way.Dict k t fill x made names filled of_used =
     of_dict k t fill x (λ used. IsAllOf made (reply.Dict (filter_map plain_pair used))) names filled of_used (λ (dict : DictContent). IsAllOf made (reply.Dict (items_of dict.pairs)))
-    (λ used dict are is held_words. subst (λ (l : List (Key × Value)). IsAllOf made (reply.Dict l)) (pairs_gathered used dict are) held_words)
+    (λ used dict are is held_unboxed. subst (λ (l : List (Key × Value)). IsAllOf made (reply.Dict l)) (pairs_gathered used dict are) held_unboxed)
 all_of_used way.Set k t fill x made names filled of_used =
     of_set k t fill x (λ used. IsAllOf made (reply.Set (filter_map live_key used))) names filled of_used (λ (set : SetContent). IsAllOf made (reply.Set (map (λ (e : Element). e.key) set.elements)))
-    (λ used set are is held_words. subst (λ (l : List Key). IsAllOf made (reply.Set l)) (elements_gathered used set are) held_words)
+    (λ used set are is held_unboxed. subst (λ (l : List Key). IsAllOf made (reply.Set l)) (elements_gathered used set are) held_unboxed)
 
 -- where there is no table, there is nothing
 pub none_there : (way : Way) (k : Shape) (x : ContainerWords) (said : Reply) → root_in x ≡ 0 → said ≡ reply_of_used way [] → IsAllIn way k (Ok said) x
@@ -106,14 +106,14 @@ not_kept way.Set said all kept = let e = sym all.1 ∙ kept in absurd (cc)
 -- ---- under the lock
 
 module _ (way : Way) (k : Shape) (c : ℕ) (v : View) (shape : v.shape ≡ k) (possible : ∥ IsReachable v ∥₁) (may : MayWriteEntries k c v) (is : kind_in k.starts c ≡ kind_by way) where
-  all_now : (made : Result Reply AllocError) → IsAllIn way k made (held_words c v) → (stored : StoredWorld) → MayHave v stored → IsAllOf made (reply_in stored (items_call way c))
-  all_now made shows stored has = all_replied way k c made (held_words c v) stored (had_kind k c v shape possible may stored has ∙ is) (had_stands k c v shape possible may stored has) shows
+  all_now : (made : Result Reply AllocError) → IsAllIn way k made (held_unboxed c v) → (stored : StoredWorld) → MayHave v stored → IsAllOf made (reply_in stored (items_call way c))
+  all_now made shows stored has = all_replied way k c made (held_unboxed c v) stored (had_kind k c v shape possible may stored has ∙ is) (had_stands k c v shape possible may stored has) shows
 
   -- a copy without memory takes some
-  pub items_taken : (error : AllocError) → IsAllIn way k (Err error) (held_words c v) → TakesMemory (items_call way c) v
+  pub items_taken : (error : AllocError) → IsAllIn way k (Err error) (held_unboxed c v) → TakesMemory (items_call way c) v
   items_taken error shows stored has = (all_now (Err error) shows stored has).1
 
-  pub items_shown : (said : Reply) → IsItemsReply way said → IsAllIn way k (Ok said) (held_words c v) → IsShownBy (items_call way c) said v
+  pub items_shown : (said : Reply) → IsItemsReply way said → IsAllIn way k (Ok said) (held_unboxed c v) → IsShownBy (items_call way c) said v
   items_shown said all shows =
       let plain = items_plain way c said all in
       record {

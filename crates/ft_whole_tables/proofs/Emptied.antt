@@ -1,6 +1,6 @@
 -- A clear of a dict or a set: that it may be committed, and what the container and its words are then.
 use Rattle.std.proofs.Common.{◌≡◌, ◌≢◌, ℕ, suc, ◌%◌, ◌<◌, ◌≤◌, true, false, true≢false, List, [], ◌∷◌, length, Option, Some, None, refl, sym, ap, ◌∙◌, subst, arith, length-set, get_or-set_same, get_or-set_other}
-use Rattle.std.specs.Prelude.{IfNone, IfSome, is_some, filter, map, slice_index, slice_set}
+use Rattle.std.specs.Prelude.{◌==◌, IfNone, IfSome, cond, is_some, filter, map, slice_index, slice_set}
 use Rattle.std.proofs.lemmas.List.Elements.{All-nil}
 use Rattle.std.proofs.Math.Logic.{∥∥₁_elim}
 use Rattle.std.proofs.Math.Nat.{ℕ_set}
@@ -20,24 +20,32 @@ use Rattle.ft_trace.specs.declared.Act.TheVariants.{Commit, PutRoot, StartWrite,
 use Rattle.ft_trace.specs.declared.Shape.{Shape}
 use Rattle.ft_trace.specs.declared.Snap.{Snap}
 use Rattle.ft_trace.specs.declared.View.{View}
-use Rattle.ft_trace.specs.Acts.{has_lock, is_writing, owes, view_after, seen_writes, used}
-use Rattle.ft_trace.specs.Addresses.{container_count, class_of}
-use Rattle.ft_trace.specs.Holds.{held_words, known_state}
+use Rattle.ft_trace.specs.Acts.{has_lock, is_writing, owes, view_after, seen_writes, stage, stage_next, used}
+use Rattle.ft_trace.specs.Addresses.{container_count, class_of, IsTableName}
+use Rattle.ft_trace.specs.Boxes.{references_held, IsDoneWithBoxes}
+use Rattle.ft_trace.specs.Holds.{held_words, held_unboxed, in_hand, known_state}
 use Rattle.ft_trace.specs.Kinds.{IsKeyed, version_at}
 use Rattle.ft_trace.specs.Traces.{IsReachable}
 use Rattle.ft_trace.specs.Pictures.{ContainerWords, root_in, Represents}
 use Rattle.ft_trace.specs.ContainerStates.{ContainerState, changes, kind_in, may_empty, reply_in, kinds_in}
-use Rattle.ft_trace.proofs.Cases.{hit}
+use Rattle.ft_trace.proofs.Cases.{hit, miss}
 use Rattle.ft_trace.proofs.Clearing.{held_shut}
 use Rattle.ft_bank.specs.declared.table.Table.{Table}
 use Rattle.ft_bank.specs.TableNames.{table_id, root_for}
-use Rattle.ft_bank.specs.Whole.{OnlyPut, Wrote}
-use Rattle.ft_bank.specs.WriteSteps.{Committed, IsShut, KeepsUnwritten, MayCommit, MayHave, MayPutRoot, with_block, with_root}
-use Rattle.ft_bank.proofs.KnownAfterWrites.{put_same, work_knows, write_ends}
+use Rattle.ft_bank.specs.SameBoxes.{MovesReferences, SameMade, SameReferences, named_in_words}
+use Rattle.ft_bank.specs.Whole.{EndsWrite, OnlyBoxed, OnlyPut, OnlyWritten, Wrote}
+use Rattle.ft_bank.specs.WriteSteps.{Committed, IsShut, KeepsUnwritten, MayCommit, MayHave, MayPutRoot, with_block, with_unboxed_root}
+use Rattle.ft_bank.proofs.DoneBoxes.{none_named, same_named}
+use Rattle.ft_bank.proofs.KnownAfterWrites.{boxed_written, put_same, put_written, work_knows, write_ends, written_then}
+use Rattle.ft_bank.proofs.TableAddresses.{named}
+use Rattle.ft_bank.proofs.WordsPut.{taken_words}
+use Rattle.ft_table_calls.specs.Dropping.{HoldsNamed, SharesBoxes}
+use Rattle.ft_table_calls.proofs.Dropped.{holds_named, shares_done}
 use Rattle.ft_table_calls.proofs.Rooting.{rooted_write}
 use Rattle.ft_search.specs.OneEntryWrites.{HasTable, Leaves, MayWriteEntries}
 use Rattle.ft_search.proofs.Calling.{plain_replied}
 use Rattle.ft_search.proofs.Changing.{kind_is}
+use Rattle.ft_search.proofs.Puts.{few_done, shut_reads}
 use Rattle.ft_whole_tables.specs.Clearing.{cleared, cleared_kept}
 use Rattle.ft_model.specs.declared.data.Key.{Key}
 
@@ -116,8 +124,10 @@ bare_stays texts words kept unshared keyed stands bare = by kept.content kept.ta
 -- no version of an entry is odd before the write
 known_shut : (k : Shape) (v : View) (o : ℕ) → v.shape ≡ k → ∥ IsReachable v ∥₁ → MayWriteEntries k o v → IsShut o v
 known_shut k v o shape possible may t names p row =
-    ∥∥₁_elim {P = slice_index (held_words o v).table (version_at (kind_in v.shape.starts o) (class_of t) p) % 2 ≡ 0} possible (ℕ_set _ _)
-    (λ (x : IsReachable v). held_shut v o t (subst (λ (z : Shape). o < container_count z) (sym shape) may.container) x may.locked (may.even o) names p row)
+    let here = subst (λ (z : Shape). o < container_count z) (sym shape) may.container in
+    shut_reads v o t names
+    (λ q fits. ∥∥₁_elim {P = slice_index (held_words o v).table (version_at (kind_in v.shape.starts o) (class_of t) q) % 2 ≡ 0} possible (ℕ_set _ _) (λ (x : IsReachable v). held_shut v o t here x may.locked (may.even o) names q fits))
+    p row
 
 pub may_put_none : (k : Shape) (o : ℕ) (v s : View) (f : ℕ) → v.shape ≡ k → ∥ IsReachable v ∥₁ → MayWriteEntries k o v → used v.log ≡ false → s ≡ view_after (StartWrite o f) v → MayPutRoot s o None
 may_put_none k o v s f shape possible may free is =
@@ -130,13 +140,61 @@ may_put_none k o v s f shape possible may free is =
       shut = known_shut k v o shape possible may;
       spare = λ some_one. free;
       early = λ e. hit o false _;
+      references = record {
+        few = few_done k (view_after (StartWrite o f) v) shape (λ b. let d = may.boxes b in (d.0, d.1, d.2, d.3));
+        enough = λ b. omega arith;
+        known = λ b none some_one. absurd (some_one refl);
+      };
     })
+
+-- the root names no table then
+pub rooted_bare : (k : Shape) (o f : ℕ) (v s r : View) → MayWriteEntries k o v → s ≡ view_after (StartWrite o f) v → held_unboxed o r ≡ with_unboxed_root (held_unboxed o s) o None s → root_in (held_words o r) ≡ 0
+rooted_bare k o f v s r may started held =
+    let size_is = ap (λ (z : View). length (held_unboxed o z).block) started
+    ∙ (head_of k.texts (held_unboxed o v).block (0 ∷ 0 ∷ (held_unboxed o v).table) (known_state o v).table (known_state o v).content may.stands).size in
+    ap root_in held ∙ get_or-set_same (held_unboxed o s).block 0 0 0 (omega (arith, size_is))
+
+-- the references that the pass has right after that
+module _ (k : Shape) (o : ℕ) (table : Table) (f : ℕ) (v s r : View) (shape : v.shape ≡ k) (may : MayWriteEntries k o v) (table_is : HasTable k o table v) (started : s ≡ view_after (StartWrite o f) v) (rooted : r ≡ view_after (PutRoot o 0 (root_in (held_words o s))) s) (moves : MovesReferences o s r) (bare : root_in (held_words o r) ≡ 0) where
+  abbrev t : ℕ
+  t = table_id table
+
+  shape_started : s.shape ≡ k
+  shape_started = ap (λ (z : View). z.shape) started ∙ shape
+
+  shape_rooted : r.shape ≡ s.shape
+  shape_rooted = ap (λ (z : View). z.shape) rooted
+
+  names_table : root_in (held_words o s) ≡ suc t
+  names_table = ap (λ (z : View). root_in (held_words o z)) started ∙ table_is.root
+
+  done_started : IsDoneWithBoxes k s.log
+  done_started = subst (λ (z : View). IsDoneWithBoxes k z.log) (sym started) (λ b. let d = may.boxes b in (d.0, d.1, d.2, d.3))
+
+  -- the table is the pass's, to be retired
+  pub table_out : stage t r.log ≡ 3
+  table_out =
+      let n = stage t s.log in
+      ap (λ (z : View). stage t z.log) rooted
+      ∙ (ap (λ (root : ℕ). stage_next t (PutRoot o 0 root) n) names_table
+      ∙ (miss 0 (suc t) 0 (cond (suc t == suc t) 3 n) (λ e. absurd (omega (arith, e))) ∙ hit (suc t) 3 n))
+
+  pub table_named_held : HoldsNamed k o t r
+  table_named_held =
+      let low = subst (λ (z : Shape). o < container_count z) (sym shape_started) may.container in
+      let name = subst (λ (z : Shape). IsTableName z t) (sym shape_started) (named k table table_is.table_in) in
+      holds_named k o t s r shape_started shape_rooted done_started moves names_table
+      (ap (in_hand t) rooted ∙ taken_words s o t 0 (root_in (held_words o s)) low name names_table)
+      (λ b. none_named b (kind_in r.shape.starts o) (held_words o r) bare)
+
+  pub table_shared : SharesBoxes r
+  table_shared = shares_done k s r done_started (subst (SameMade s) (sym rooted) (record { state = λ b. refl; local = λ b. refl; taken = λ b. refl; places = λ b. refl }))
 
 -- ---- the whole write of a dict or a set that has a table
 
--- The pass knew v; it made the version of the container o odd, put 0 into its root, where a table was named, and put into its
--- block that nothing is there: then it knows u.
-pub record Emptying (k : Shape) (o : ℕ) (table : Table) (called : Call) (f : ℕ) (v s r u : View) : Type 0 where
+-- The pass knew v; it made the version of the container o odd, put 0 into its root, where a table was named, dropped the
+-- references that its words had, and put into its block that nothing is there: then it knows u.
+pub record Emptying (k : Shape) (o : ℕ) (table : Table) (called : Call) (f : ℕ) (v s r d u : View) : Type 0 where
   pub may : MayWriteEntries k o v
   pub shape : v.shape ≡ k
   pub possible : ∥ IsReachable v ∥₁
@@ -144,38 +202,58 @@ pub record Emptying (k : Shape) (o : ℕ) (table : Table) (called : Call) (f : �
   pub leaves : Leaves o called reply.Done (cleared_kept (known_state o v)) v
   pub empties : may_empty called ≡ true
   pub started : s ≡ view_after (StartWrite o f) v
-  pub rooted : r ≡ view_after (PutRoot o 0 (root_in (held_words o s))) s
-  pub root_held : held_words o r ≡ with_root (held_words o s) None s
+  pub rooted : r ≡ view_after (PutRoot o 0 (root_in (held_unboxed o s))) s
+  pub root_held : held_unboxed o r ≡ with_unboxed_root (held_unboxed o s) o None s
   pub keeps : KeepsUnwritten s r
-  pub puts : OnlyPut o r u
-  pub words : held_words o u ≡ with_block (with_block (held_words o r) 1 0) 2 0
+  pub moves : MovesReferences o s r
+  pub drops : OnlyBoxed r d
+  pub made : SameMade r d
+  pub none : (b : ℕ) → references_held k b d.log ≡ 0
+  pub puts : OnlyPut o d u
+  pub words : held_unboxed o u ≡ with_block (with_block (held_unboxed o d) 1 0) 2 0
 
-module _ (k : Shape) (o : ℕ) (table : Table) (called : Call) (f : ℕ) (v s r u : View) (e : Emptying k o table called f v s r u) where
-  both_rooted : r ≡ view_after (PutRoot o 0 (root_in (held_words o v))) (view_after (StartWrite o f) v)
-  both_rooted = e.rooted ∙ ap (λ (z : View). view_after (PutRoot o 0 (root_in (held_words o z))) z) e.started
+module _ (k : Shape) (o : ℕ) (table : Table) (called : Call) (f : ℕ) (v s r d u : View) (e : Emptying k o table called f v s r d u) where
+  both_rooted : r ≡ view_after (PutRoot o 0 (root_in (held_unboxed o v))) (view_after (StartWrite o f) v)
+  both_rooted = e.rooted ∙ ap (λ (z : View). view_after (PutRoot o 0 (root_in (held_unboxed o z))) z) e.started
+
+  shape_bare : r.shape ≡ v.shape
+  shape_bare = ap (λ (z : View). z.shape) both_rooted
+
+  -- what the pass did since the root was put
+  written : OnlyWritten o r u
+  written =
+      written_then o r d u
+      (boxed_written o r d e.drops e.made (λ b. let none = ap (λ (z : Shape). references_held z b d.log) (e.drops.work.pass.shape ∙ (shape_bare ∙ e.shape)) ∙ e.none b in omega (arith, none)))
+      (put_written o d u e.puts)
 
   known_then : (p : ℕ) → known_state p u ≡ known_state p v
-  known_then p = work_knows r u p e.puts.work ∙ ap (λ (z : View). known_state p z) both_rooted
+  known_then p = work_knows r u p written.work ∙ ap (λ (z : View). known_state p z) both_rooted
 
   shape_then : u.shape ≡ v.shape
-  shape_then = e.puts.work.pass.shape ∙ ap (λ (z : View). z.shape) both_rooted
+  shape_then = written.work.pass.shape ∙ shape_bare
 
   locks_then : (p : ℕ) → has_lock p u.log ≡ has_lock p v.log
-  locks_then p = e.puts.work.pass.locks p ∙ ap (λ (z : View). has_lock p z.log) both_rooted
+  locks_then p = written.work.pass.locks p ∙ ap (λ (z : View). has_lock p z.log) both_rooted
+
+  -- the drops leave what the words read
+  drops_read : held_unboxed o d ≡ held_unboxed o r
+  drops_read =
+      e.drops.unboxed o (subst (λ (z : Shape). o < container_count z) (sym (shape_bare ∙ e.shape)) e.may.container)
+      (ap (λ (z : View). has_lock o z.log) both_rooted ∙ e.may.locked)
 
   -- the kind of its content
   keyed : IsKeyed (kind_of (known_state o v).content)
   keyed = subst IsKeyed (sym (kind_is k v o e.shape e.possible e.may.locked)) e.may.keyed
 
   -- its block
-  head_then : IsBlock (held_words o u).block None 0 0 (serial_of (known_state o v).content)
+  head_then : IsBlock (held_unboxed o u).block None 0 0 (serial_of (known_state o v).content)
   head_then =
-      subst (λ (x : ContainerWords). IsBlock x.block None 0 0 (serial_of (known_state o v).content)) (sym (e.words ∙ ap (λ (x : ContainerWords). with_block (with_block x 1 0) 2 0) e.root_held))
-      (subst (λ (z : View). IsBlock (with_block (with_block (with_root (held_words o z) None z) 1 0) 2 0).block None 0 0 (serial_of (known_state o v).content)) (sym e.started)
-      (no_counts (held_words o v).block (known_state o v).table.class (length_of (known_state o v).content) (known_state o v).table.fill (serial_of (known_state o v).content)
-      (head_of k.texts (held_words o v).block (0 ∷ 0 ∷ (held_words o v).table) (known_state o v).table (known_state o v).content e.may.stands)))
+      subst (λ (x : ContainerWords). IsBlock x.block None 0 0 (serial_of (known_state o v).content)) (sym (e.words ∙ ap (λ (x : ContainerWords). with_block (with_block x 1 0) 2 0) (drops_read ∙ e.root_held)))
+      (subst (λ (z : View). IsBlock (with_block (with_block (with_unboxed_root (held_unboxed o z) o None z) 1 0) 2 0).block None 0 0 (serial_of (known_state o v).content)) (sym e.started)
+      (no_counts (held_unboxed o v).block (known_state o v).table.class (length_of (known_state o v).content) (known_state o v).table.fill (serial_of (known_state o v).content)
+      (head_of k.texts (held_unboxed o v).block (0 ∷ 0 ∷ (held_unboxed o v).table) (known_state o v).table (known_state o v).content e.may.stands)))
 
-  root_then : root_in (held_words o u) ≡ 0
+  root_then : root_in (held_unboxed o u) ≡ 0
   root_then = head_then.root
 
   -- the bank may have the same
@@ -193,14 +271,14 @@ module _ (k : Shape) (o : ℕ) (table : Table) (called : Call) (f : ℕ) (v s r 
   emptying_commits =
       let l = e.leaves in
       let at : o ≡ changes called = sym l.changed in
-      let owed : owes u.log ≡ 0 = e.puts.work.owes ∙ (ap (λ (z : View). owes z.log) both_rooted ∙ e.may.owes) in
-      let odd : is_writing o u.log ≡ true = e.puts.work.pass.writes o ∙ (ap (λ (z : View). is_writing o z.log) both_rooted ∙ hit o true (is_writing o v.log)) in
-      let bare : root_in (held_words (changes called) u) ≡ 0 = subst (λ (n : ℕ). root_in (held_words n u) ≡ 0) at root_then in
+      let owed : owes u.log ≡ 0 = written.work.owes ∙ (ap (λ (z : View). owes z.log) both_rooted ∙ e.may.owes) in
+      let odd : is_writing o u.log ≡ true = written.work.pass.writes o ∙ (ap (λ (z : View). is_writing o z.log) both_rooted ∙ hit o true (is_writing o v.log)) in
+      let bare : root_in (held_unboxed (changes called) u) ≡ 0 = subst (λ (n : ℕ). root_in (held_unboxed n u) ≡ 0) at root_then in
       record {
         write = l.write;
         container = subst (λ (n : ℕ). n < container_count u.shape) at (subst (λ (z : Shape). o < container_count z) (sym (shape_then ∙ e.shape)) e.may.container);
         odd = subst (λ (n : ℕ). is_writing n u.log ≡ true) at odd;
-        left = subst (λ (n : ℕ). 0 < n) (sym (e.puts.work.left ∙ ap (λ (z : View). z.left) both_rooted)) e.may.left;
+        left = subst (λ (n : ℕ). 0 < n) (sym (written.work.left ∙ ap (λ (z : View). z.left) both_rooted)) e.may.left;
         words = l.words;
         locks = λ p x. locks_then p ∙ l.locks p x;
         reply_is = λ stored has. plain_replied called reply.Done (reply_in stored called) l.write (l.replied stored (has_before stored has));
@@ -213,18 +291,18 @@ module _ (k : Shape) (o : ℕ) (table : Table) (called : Call) (f : ℕ) (v s r 
 
   -- after the commit
   module _ (number : ℕ) (snap : Snap) (c : View) (made : c ≡ view_after (Commit called reply.Done number snap) u) (committed : Committed u c called) where
-    held_on : held_words o c ≡ held_words o u
-    held_on = ap (λ (z : View). held_words o z) made
+    held_on : held_unboxed o c ≡ held_unboxed o u
+    held_on = ap (λ (z : View). held_unboxed o z) made
 
     kept_then : known_state o c ≡ cleared_kept (known_state o v)
     kept_then = committed.left o ∙ e.leaves.left_is committed.found (has_before committed.found committed.has)
 
-    pub emptying_stands : Represents k.texts (held_words o c) (known_state o c)
+    pub emptying_stands : Represents k.texts (held_unboxed o c) (known_state o c)
     emptying_stands =
-        subst (λ (z : ContainerState). Represents k.texts (held_words o c) z) (sym kept_then)
-        (empty_stands k.texts (held_words o c) (known_state o v).content keyed (subst (λ (x : ContainerWords). IsBlock x.block None 0 0 (serial_of (known_state o v).content)) (sym held_on) head_then))
+        subst (λ (z : ContainerState). Represents k.texts (held_unboxed o c) z) (sym kept_then)
+        (empty_stands k.texts (held_unboxed o c) (known_state o v).content keyed (subst (λ (x : ContainerWords). IsBlock x.block None 0 0 (serial_of (known_state o v).content)) (sym held_on) head_then))
 
-    pub emptying_root : root_in (held_words o c) ≡ 0
+    pub emptying_root : root_in (held_unboxed o c) ≡ 0
     emptying_root = ap root_in held_on ∙ root_then
 
     pub emptying_shut : IsShut o c
@@ -232,28 +310,44 @@ module _ (k : Shape) (o : ℕ) (table : Table) (called : Call) (f : ℕ) (v s r 
 
     -- the whole write
     module _ (g : ℕ) (w : View) (seen : seen_writes u ≤ number) (stopped : w ≡ view_after (StopWrite o g) c) where
-      some_old : root_in (held_words o v) ≢ 0
+      some_old : root_in (held_unboxed o v) ≢ 0
       some_old x = let n = e.table_is.root in omega (arith, x, n)
 
-      stands_u : Represents u.shape.texts (held_words o c) (known_state o c)
-      stands_u = subst (λ (z : Shape). Represents z.texts (held_words o c) (known_state o c)) (sym (shape_then ∙ e.shape)) emptying_stands
+      stands_u : Represents u.shape.texts (held_unboxed o c) (known_state o c)
+      stands_u = subst (λ (z : Shape). Represents z.texts (held_unboxed o c) (known_state o c)) (sym (shape_then ∙ e.shape)) emptying_stands
 
       at_change : o ≡ changes called
       at_change = sym e.leaves.changed
 
+      emptying_ends : EndsWrite called reply.Done number u w
+      emptying_ends =
+          write_ends called reply.Done number g snap u c c w seen made committed emptying_commits.left (put_same c (changes called))
+          (subst (λ (n : ℕ). root_in (held_unboxed n c) ≡ root_in (held_unboxed n u)) at_change (ap root_in held_on))
+          (subst (λ (n : ℕ). Represents u.shape.texts (held_unboxed n c) (known_state n c)) at_change stands_u)
+          (subst (λ (n : ℕ). w ≡ view_after (StopWrite n g) c) at_change stopped)
+
       pub emptying_wrote : Wrote called reply.Done number v w
       emptying_wrote =
           rooted_write called reply.Done number f 0 v r u w
-          (subst (λ (n : ℕ). r ≡ view_after (PutRoot n 0 (root_in (held_words n v))) (view_after (StartWrite n f) v)) at_change both_rooted)
+          (subst (λ (n : ℕ). r ≡ view_after (PutRoot n 0 (root_in (held_unboxed n v))) (view_after (StartWrite n f) v)) at_change both_rooted)
           (subst (λ (n : ℕ). is_writing n v.log ≡ false) at_change (e.may.even o))
-          (subst (λ (n : ℕ). root_in (held_words n v) ≢ 0) at_change some_old)
+          (subst (λ (n : ℕ). root_in (held_unboxed n v) ≢ 0) at_change some_old)
           (subst (λ (n : ℕ). KeepsUnwritten (view_after (StartWrite n f) v) r) at_change (subst (λ (z : View). KeepsUnwritten z r) e.started e.keeps))
-          (subst (λ (n : ℕ). OnlyPut n r u) at_change e.puts)
-          (subst (λ (n : ℕ). root_in (held_words n u) ≡ 0) at_change root_then)
-          (write_ends called reply.Done number g snap u c c w seen made committed emptying_commits.left (put_same c (changes called))
-          (subst (λ (n : ℕ). root_in (held_words n c) ≡ root_in (held_words n u)) at_change (ap root_in held_on))
-          (subst (λ (n : ℕ). Represents u.shape.texts (held_words n c) (known_state n c)) at_change stands_u)
-          (subst (λ (n : ℕ). w ≡ view_after (StopWrite n g) c) at_change stopped))
+          (subst (λ (n : ℕ). MovesReferences n (view_after (StartWrite n f) v) r) at_change (subst (λ (z : View). MovesReferences o z r) e.started e.moves))
+          (subst (λ (n : ℕ). OnlyWritten n r u) at_change written)
+          (subst (λ (n : ℕ). root_in (held_unboxed n u) ≡ 0) at_change root_then)
+          emptying_ends
 
-      pub emptying_bare : root_in (held_words o w) ≡ 0
-      emptying_bare = ap (λ (z : View). root_in (held_words o z)) stopped ∙ emptying_root
+      pub emptying_bare : root_in (held_unboxed o w) ≡ 0
+      emptying_bare = ap (λ (z : View). root_in (held_unboxed o z)) stopped ∙ emptying_root
+
+      -- the pass holds no references, as before
+      pub emptying_references : SameReferences v w
+      emptying_references =
+          let bare_d : root_in (held_words o d) ≡ 0 = ap root_in drops_read ∙ rooted_bare k o f v s r e.may e.started e.root_held in
+          let shape_d = e.drops.work.pass.shape ∙ (shape_bare ∙ e.shape) in
+          let before : IsDoneWithBoxes v.shape v.log = subst (λ (z : Shape). IsDoneWithBoxes z v.log) (sym e.shape) e.may.boxes in
+          let no_box : (x : View) → root_in (held_words o x) ≡ 0 → (b : ℕ) → named_in_words b (kind_in x.shape.starts o) (held_words o x) ≡ 0 = λ x none b. none_named b (kind_in x.shape.starts o) (held_words o x) none in
+          let put = same_named o d u e.puts.moves (λ b. no_box u root_then b ∙ sym (no_box d bare_d b)) in
+          let ended = same_named o u w (subst (λ (n : ℕ). MovesReferences n u w) (sym at_change) emptying_ends.moves) (λ b. no_box w emptying_bare b ∙ sym (no_box u root_then b)) in
+          λ b. ended b ∙ (put b ∙ (ap (λ (z : Shape). references_held z b d.log) shape_d ∙ (e.none b ∙ sym (before b).0)))

@@ -6,6 +6,7 @@ use Rattle.ft_layout.specs.declared.slot.Stored.TheVariants.{Boxed, Empty, Plain
 use Rattle.ft_layout.specs.Containers.{IsDictWords, IsSetWords, StandsAs, class_mask}
 use Rattle.ft_layout.specs.Tables.{UsedEntry, dict_room, entry_word, hash_of, slot_with}
 use Rattle.ft_layout.specs.Words.{FitsKey, IsEntry, IsKey, IsStored, gone_kind, key_kind}
+use Rattle.ft_layout.proofs.FieldLaws.{sizes_of_class}
 use Rattle.ft_layout.proofs.WordLaws.{stored_is_one}
 use Rattle.ft_keys.specs.declared.walk.Way.{Way}
 use Rattle.ft_keys.specs.declared.walk.Way.TheVariants as way
@@ -15,12 +16,12 @@ use Rattle.ft_model.specs.declared.content.Content.TheVariants as content
 use Rattle.ft_model.specs.declared.data.Key.{Key}
 use Rattle.ft_model.specs.declared.data.Key.TheVariants as key
 use Rattle.ft_model.specs.declared.data.Value.{Value}
-use Rattle.ft_model.specs.Classes.{dict_entries}
+use Rattle.ft_model.specs.Classes.{IsClass, dict_entries}
 use Rattle.ft_model.specs.Worlds.{kind_of}
 use Rattle.ft_trace.specs.declared.Shape.{Shape}
-use Rattle.ft_trace.specs.Addresses.{class_of, places, slots}
+use Rattle.ft_trace.specs.Addresses.{class_of, places, size, slots}
 use Rattle.ft_trace.specs.Carefuls.{HasLiveKey}
-use Rattle.ft_trace.specs.Kinds.{IsKeyed}
+use Rattle.ft_trace.specs.Kinds.{rows, IsKeyed}
 use Rattle.ft_trace.specs.Pictures.{ContainerWords, Represents, entry_field, root_in}
 use Rattle.ft_trace.specs.ContainerStates.{ContainerState}
 use Rattle.ft_trace.proofs.Known.{class_known}
@@ -29,11 +30,31 @@ use Rattle.ft_bank.specs.TableNames.{IsTableIn, table_id}
 use Rattle.ft_bank.proofs.TableAddresses.{class_is}
 use Rattle.ft_search.proofs.KnownTableWords.{entry_after_header}
 use Rattle.ft_search.proofs.WordPlaces.{places_is, slots_of_class}
-use Rattle.ft_whole_tables.specs.TableEntries.{AreEntriesOf, IsKeyAt, IsPlainAt, live_key, plain_with}
+use Rattle.ft_search.specs.Rounds.{kind_by}
+use Rattle.ft_search.specs.declared.boxed.SeenValue.{SeenValue}
+use Rattle.ft_whole_tables.specs.TableEntries.{AreEntriesOf, IsKeyAt, IsPlainAt, IsSeenAt, live_key, plain_with}
 
 -- where a word of an entry lies
 pub word_is : (c : ℕ) (ws : List ℕ) (place word : ℕ) → entry_word (class_mask c) (0 ∷ 0 ∷ ws) place word ≡ entry_field (slots c) ws place word
 word_is c ws place word = entry_after_header ws (class_mask c) place word ∙ ap (slice_index ws) (let e = slots_of_class c in omega (arith, e))
+
+pub places_of : (c : ℕ) → places c ≡ dict_entries c
+unfolding places
+places_of c = refl
+
+-- a table has as many words as its class says
+pub words_long : (c : ℕ) → IsClass c → (way : Way) (texts : List ℕ) (used : List UsedEntry) (ws : List ℕ) → IsTableOf way texts (class_mask c) used (0 ∷ 0 ∷ ws) → length ws ≡ size c
+words_long c is way texts used ws table =
+    let long = table.size in
+    let room = (sizes_of_class c is).0 in
+    let n = slots_of_class c in
+    let p = places_of c in
+    omega (arith, long, room, n, p)
+
+-- how many entries it has
+pub room_is : (way : Way) (c : ℕ) → IsClass c → room way (class_mask c) ≡ rows (kind_by way) c
+room_is way.Dict c is = (sizes_of_class c is).0 ∙ sym (places_of c)
+room_is way.Set c is = (sizes_of_class c is).1
 
 -- no kind of a key that is there is that of a deleted one
 other_kind : (a b : Key) → gone_kind a ≢ key_kind b
@@ -90,17 +111,18 @@ module _ (k : Shape) (t place kind payload : ℕ) (x : ContainerWords) (kind_is 
   )
 
 -- the key and the value of an entry, once the key was read
-pub value_read : (k : Shape) (t place value_kind value : ℕ) (x : ContainerWords) (key : Key) → IsKeyAt k t place (Some key) x → (root_in x ≡ suc t → value_kind ≡ entry_field (slots (class_of t)) x.table place 4) → (root_in x ≡ suc t → value ≡ entry_field (slots (class_of t)) x.table place 5)
-    → (found : Option Value) → ((v : Value) → IsStored value_kind value (Plain v) ↔ (found ≡ Some v)) → IsPlainAt k t place (option_map {U = Key × Value} (λ (v : Value). (key, v)) found) x
-value_read k t place value_kind value x key at value_kind_is value_is found says = (
+pub value_read : (k : Shape) (t place : ℕ) (seen : SeenValue) (x : ContainerWords) (key : Key) → IsClass (class_of t) → IsKeyAt k t place (Some key) x → IsSeenAt t place seen x
+    → (found : Option Value) → ((v : Value) → IsStored seen.kind seen.value (Plain v) ↔ (found ≡ Some v)) → IsPlainAt k t place (option_map {U = Key × Value} (λ (v : Value). (key, v)) found) x
+value_read k t place seen x key is_class at seen_is found says = (
   (λ names way used table any low.
       let c = class_of t in
       let e = slice_index_or used place any in
       let words = 0 ∷ 0 ∷ x.table in
       let is = at.0 names way used table any low in
       let both = of_live e key is in
+      let reads = seen_is names (words_long c is_class way k.texts used x.table table) in
       ap (λ (z : Key). option_map (λ (v : Value). (z, v)) found) both.0
-      ∙ value_of_slot (entry_word (class_mask c) words place) value_kind value (value_kind_is names ∙ sym (word_is c x.table place 4)) (value_is names ∙ sym (word_is c x.table place 5)) found says (hash_of k.texts e.key) e.key e.serial e.stored (table.entries place any low) both.1),
+      ∙ value_of_slot (entry_word (class_mask c) words place) seen.kind seen.value (reads.0 ∙ sym (word_is c x.table place 4)) (reads.1 ∙ sym (word_is c x.table place 5)) found says (hash_of k.texts e.key) e.key e.serial e.stored (table.entries place any low) both.1),
   (λ names other v is. by found v other is (λ same. subst (HasLiveKey (slots (class_of t)) x.table place) same (at.1 names key refl))),
 )
   where
@@ -146,10 +168,6 @@ entries_of k x kept t keyed stands names = by kept.content keyed stands
     by (content.Deque deque) is s = absurd is
 
 -- ---- a table has no such place
-
-pub places_of : (c : ℕ) → places c ≡ dict_entries c
-unfolding places
-places_of c = refl
 
 room_low : (way : Way) (mask : ℕ) → room way mask ≤ dict_room mask
 room_low way.Dict mask = omega arith

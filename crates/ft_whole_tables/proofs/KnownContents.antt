@@ -11,15 +11,17 @@ use Rattle.ft_model.specs.Worlds.{dict_at, dict_of, kind_of, set_at, set_of}
 use Rattle.ft_trace.specs.declared.Shape.{Shape}
 use Rattle.ft_trace.specs.declared.View.{View}
 use Rattle.ft_trace.specs.Addresses.{container_count}
-use Rattle.ft_trace.specs.Holds.{held_words}
+use Rattle.ft_trace.specs.Boxes.{known_box_word}
+use Rattle.ft_trace.specs.Holds.{held_words, held_unboxed}
 use Rattle.ft_trace.specs.Traces.{IsReachable}
 use Rattle.ft_trace.specs.Pictures.{ContainerWords, Represents}
+use Rattle.ft_trace.specs.Unboxed.{unboxed}
 use Rattle.ft_trace.specs.ContainerStates.{ContainerState, state_at, kind_in, kinds_in}
 use Rattle.ft_bank.specs.declared.pass.Pass.{Pass}
 use Rattle.ft_bank.specs.Passes.{view}
 use Rattle.ft_bank.specs.Whole.{OnlyLoaded}
 use Rattle.ft_bank.specs.WriteSteps.{MayHave}
-use Rattle.ft_bank.proofs.KnownAfterWrites.{loaded_held, work_knows}
+use Rattle.ft_bank.proofs.KnownAfterWrites.{work_knows}
 use Rattle.ft_search.specs.MadeCalls.{IsShownBy}
 use Rattle.ft_search.specs.OneEntryWrites.{MayWriteEntries}
 use Rattle.ft_search.proofs.Changing.{kind_is}
@@ -30,20 +32,28 @@ use Rattle.ft_reads.proofs.Agreeing.{reads_loaded}
 
 -- ---- what was read
 
-module _ (k : Shape) (o : ℕ) (shows : ContainerWords → Type 0) (p q : Pass) (r : Reads k o shows p q) (may : MayWriteEntries k o (view p)) where
-  pub read_shows : shows (held_words o (view p))
-  read_shows = r.3 (held_words o (view p)) (r.4 o may.container may.locked)
+module _ (k : Shape) (o : ℕ) (shows : ContainerWords → Type 0) (p q : Pass) (shape : (view p).shape ≡ k) (r : Reads k o shows p q) (may : MayWriteEntries k o (view p)) where
+  pub read_shows : shows (held_unboxed o (view p))
+  read_shows =
+      subst (λ (z : Shape). shows (unboxed (λ b i. known_box_word (view p).shape b i (view p).log) (kind_in z.starts o) (held_words o (view p)))) (sym shape)
+      (r.3 (held_words o (view p)) (λ b i. known_box_word (view p).shape b i (view p).log) (r.4 shape o may.container may.locked))
+
+  loaded : OnlyLoaded (view p) (view q)
+  loaded = reads_loaded k o shows p q r
 
   pub read_may : MayWriteEntries k o (view q)
-  read_may = may_loaded k o (view p) (view q) (reads_loaded k o shows p q r) may
+  read_may = may_loaded k o (view p) (view q) shape loaded may
 
   -- and so it is once the words were loaded
-  pub read_later : shows (held_words o (view q))
-  read_later = subst shows (sym (loaded_held (view p) (view q) o (reads_loaded k o shows p q r))) read_shows
+  pub read_later : shows (held_unboxed o (view q))
+  read_later = subst shows (sym (loaded.unboxed o (subst (λ (z : Shape). o < container_count z) (sym shape) may.container) may.locked)) read_shows
 
-module _ (k : Shape) (o m : ℕ) (shows : ContainerWords → ContainerWords → Type 0) (p q : Pass) (r : ReadsBoth k o m shows p q) (may : MayWriteEntries k o (view p)) (other : MayWriteEntries k m (view p)) where
-  pub both_show : shows (held_words o (view p)) (held_words m (view p))
-  both_show = r.3 (held_words o (view p)) (held_words m (view p)) (r.4 o may.container may.locked) (r.4 m other.container other.locked)
+module _ (k : Shape) (o m : ℕ) (shows : ContainerWords → ContainerWords → Type 0) (p q : Pass) (shape : (view p).shape ≡ k) (r : ReadsBoth k o m shows p q) (may : MayWriteEntries k o (view p)) (other : MayWriteEntries k m (view p)) where
+  pub both_show : shows (held_unboxed o (view p)) (held_unboxed m (view p))
+  both_show =
+      let box : ℕ → ℕ → ℕ = λ b i. known_box_word (view p).shape b i (view p).log in
+      subst (λ (z : Shape). shows (unboxed box (kind_in z.starts o) (held_words o (view p))) (unboxed box (kind_in z.starts m) (held_words m (view p)))) (sym shape)
+      (r.3 (held_words o (view p)) (held_words m (view p)) box box (r.4 shape o may.container may.locked) (r.4 shape m other.container other.locked))
 
 -- ---- what the bank may have then
 
@@ -54,8 +64,8 @@ module _ (k : Shape) (o : ℕ) (v : View) (shape : v.shape ≡ k) (possible : �
   pub had_kind : kind_of (state_at stored o).content ≡ kind_in k.starts o
   had_kind = ap (λ (z : ContainerState). kind_of z.content) (has.agrees o low may.locked) ∙ kind_is k v o shape possible may.locked
 
-  pub had_stands : Represents k.texts (held_words o v) (state_at stored o)
-  had_stands = subst (λ (z : ContainerState). Represents k.texts (held_words o v) z) (sym (has.agrees o low may.locked)) may.stands
+  pub had_stands : Represents k.texts (held_unboxed o v) (state_at stored o)
+  had_stands = subst (λ (z : ContainerState). Represents k.texts (held_unboxed o v) z) (sym (has.agrees o low may.locked)) may.stands
 
 -- ---- the dict or the set at a place of a world
 

@@ -1,4 +1,5 @@
 -- what loads of the words of one table show, of a key and of all entries
+mod WordReads
 mod Loaded
 mod EntryRows
 mod Sought

@@ -24,10 +24,12 @@ use Rattle.ft_model.proofs.DictLaws.{absent_in, distinct_tail}
 use Rattle.ft_model.proofs.KeyLemmas.{same_key-true}
 use Rattle.ft_trace.specs.declared.Shape.{Shape}
 use Rattle.ft_trace.specs.Pictures.{ContainerWords, Represents}
-use Rattle.ft_trace.specs.ContainerStates.{ContainerState}
+use Rattle.ft_trace.specs.ContainerStates.{ContainerState, kind_in}
+use Rattle.ft_trace.specs.Unboxed.{unboxed}
 use Rattle.ft_bank.specs.declared.pass.Pass.{Pass}
 use Rattle.ft_reads.specs.Pairs.{ReadsBoth}
-use Rattle.ft_reads.proofs.Agreeing.{reads_none}
+use Rattle.ft_search.proofs.Running.{did_none}
+use Rattle.ft_whole_tables.proofs.WordReads.{none_held}
 use Rattle.ft_whole_tables.specs.Comparing.{lacks_value}
 use Rattle.ft_whole_tables.specs.TableEntries.{live_key, plain_pair, plain_with}
 use Rattle.ft_whole_tables.specs.FoundKeys.{IsAtKey}
@@ -172,10 +174,10 @@ at_dict (content.Deque deque) key read is at found none some = absurd (cc)
 -- ---- reads of two containers
 
 pub both_swap : (k : Shape) (o m : ℕ) (P : ContainerWords → ContainerWords → Type 0) (p q : Pass) → ReadsBoth k m o P p q → ReadsBoth k o m (λ x y. P y x) p q
-both_swap k o m P p q r = (r.0, r.1, r.2, (λ x y f g. r.3 y x g f), r.4)
+both_swap k o m P p q r = (r.0, r.1, r.2, (λ x y box more f g. r.3 y x more box g f), r.4)
 
 pub both_none : (k : Shape) (o m : ℕ) (P : ContainerWords → ContainerWords → Type 0) (p : Pass) → ((x y : ContainerWords) → P x y) → ReadsBoth k o m P p p
-both_none k o m P p all = let r = reads_none k o (λ x. Unit {0}) p (λ x. tt) in (r.0, r.1, r.2, (λ x y f g. all x y), r.4)
+both_none k o m P p all = ([], tt, did_none p, (λ x y box more f g. all (unboxed box (kind_in k.starts o) x) (unboxed more (kind_in k.starts m) y)), none_held k p)
 
 -- an entry for places that no list has
 pub no_entry : UsedEntry

@@ -12,7 +12,7 @@ use Rattle.ft_model.specs.Contents.{dict_clear, set_clear}
 use Rattle.ft_model.specs.TableUses.{no_table}
 use Rattle.ft_trace.specs.declared.Shape.{Shape}
 use Rattle.ft_trace.specs.declared.View.{View}
-use Rattle.ft_trace.specs.Holds.{held_words}
+use Rattle.ft_trace.specs.Holds.{held_unboxed}
 use Rattle.ft_trace.specs.Pictures.{root_in}
 use Rattle.ft_trace.specs.ContainerStates.{ContainerState}
 use Rattle.ft_bank.specs.declared.table.Table.{Table}
@@ -38,4 +38,4 @@ cleared_kept kept = record { content = cleared kept.content; table = no_table }
 -- the root of the container names this table of the bank, or none
 pub record HasRootOf (k : Shape) (o : ℕ) (old : Option Table) (v : View) : Type 0 where
   pub table_in : (t : Table) → old ≡ Some t → IsTableIn k t
-  pub root : root_in (held_words o v) ≡ root_for old
+  pub root : root_in (held_unboxed o v) ≡ root_for old

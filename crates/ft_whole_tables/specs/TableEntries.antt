@@ -11,9 +11,10 @@ use Rattle.ft_model.specs.declared.content.Content.TheVariants as content
 use Rattle.ft_model.specs.declared.data.Key.{Key}
 use Rattle.ft_model.specs.declared.data.Value.{Value}
 use Rattle.ft_trace.specs.declared.Shape.{Shape}
-use Rattle.ft_trace.specs.Addresses.{class_of, slots}
+use Rattle.ft_trace.specs.Addresses.{class_of, size, slots}
 use Rattle.ft_trace.specs.Carefuls.{HasLiveKey}
-use Rattle.ft_trace.specs.Pictures.{ContainerWords, root_in}
+use Rattle.ft_trace.specs.Pictures.{ContainerWords, entry_field, root_in}
+use Rattle.ft_search.specs.declared.boxed.SeenValue.{SeenValue}
 
 -- the key of a used entry, where it is there; with its value, as pairs of a dict have them
 abbrev pub live_key : UsedEntry → Option Key
@@ -55,6 +56,14 @@ IsPlainAt k t place found x =
     OfUsed k t (PlainIs place found) x
     × (root_in x ≡ suc t → (key : Key) (value : Value) → found ≡ Some (key, value)
     → HasLiveKey (slots (class_of t)) x.table place key)
+
+-- where the root names the table t, which has as many words as its class says, this is what the value of the entry at
+-- the place reads
+abbrev pub IsSeenAt : ℕ → ℕ → SeenValue → ContainerWords → Type 0
+IsSeenAt t place seen x =
+    root_in x ≡ suc t → length x.table ≡ size (class_of t)
+    → (seen.kind ≡ entry_field (slots (class_of t)) x.table place 4)
+    × (seen.value ≡ entry_field (slots (class_of t)) x.table place 5)
 
 -- these are the used entries of what a dict or a set has
 abbrev pub AreEntriesOf : List UsedEntry → Content → Type 0

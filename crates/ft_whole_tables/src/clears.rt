@@ -46,5 +46,5 @@ pub fn clear_as(bank: &Bank, pass: &mut Pass, way: Way, c: Object) -> Stamp
     ensures cursors { KeepsCursors (view pass.old) (view pass.new) }
 {
     let called = clearing_call(way, c);
-    clear_keyed(bank, pass, c, &called)
+    clear_keyed(bank, pass, c, way, &called)
 }

@@ -7,7 +7,10 @@ ghost use Rattle.std.specs.List.{filter_map, list_all, list_any};
 ghost use Rattle.ft_model.specs.declared.data.Value.{Value};
 ghost use Rattle.ft_model.specs.Keys.{is_value};
 ghost use Rattle.ft_model.specs.Contents.{has_pair, is_disjoint, is_subset, same_elements, same_pairs};
+ghost use Rattle.ft_layout.specs.Words.{FitsKey};
+ghost use Rattle.ft_model.specs.declared.script.Kind.TheVariants as kind;
 ghost use Rattle.ft_trace.specs.Addresses.{container_count};
+ghost use Rattle.ft_trace.specs.ContainerStates.{kind_in};
 ghost use Rattle.ft_bank.specs.Passes.{shape_of, IsPassOf};
 ghost use Rattle.ft_bank.specs.PassSections.{stack_of};
 ghost use Rattle.ft_bank.specs.TableNames.{table_id, IsTableIn};
@@ -20,9 +23,9 @@ ghost use Rattle.ft_whole_tables.specs.TableEntries.{live_key, plain_pair};
 use crate::clearing::FILL;
 use crate::entries::{hash_at, key_at, value_at};
 use crate::finding::find_key;
-use crate::values::value_of;
 use ft_bank::{Bank, Pass, Table};
 use ft_keys::Way;
+use ft_layout::value_of;
 use ft_model::{Key, Value};
 use ft_search::table_named;
 use ft_section::Object;
@@ -47,6 +50,8 @@ fn meets_at(
     requires pass { IsPassOf bank.now pass.old }
     requires container { s < container_count (shape_of bank.now) }
     requires other { other < container_count (shape_of bank.now) }
+    requires kind { kind_in (shape_of bank.now).starts s ≡ kind.Set }
+    requires other_kind { kind_in (shape_of bank.now).starts other ≡ kind.Set }
     requires table { IsTableIn (shape_of bank.now) table }
     ensures pass { IsPassOf bank.now pass.new }
     ensures stack { stack_of pass.new ≡ stack_of pass.old }
@@ -76,6 +81,8 @@ fn some_meets(
     requires pass { IsPassOf bank.now pass.old }
     requires container { s < container_count (shape_of bank.now) }
     requires other { other < container_count (shape_of bank.now) }
+    requires kind { kind_in (shape_of bank.now).starts s ≡ kind.Set }
+    requires other_kind { kind_in (shape_of bank.now).starts other ≡ kind.Set }
     requires table { IsTableIn (shape_of bank.now) table }
     ensures pass { IsPassOf bank.now pass.new }
     ensures stack { stack_of pass.new ≡ stack_of pass.old }
@@ -95,6 +102,8 @@ fn any_meets(bank: &Bank, pass: &mut Pass, s: Object, other: Object, wanted: boo
     requires pass { IsPassOf bank.now pass.old }
     requires container { s < container_count (shape_of bank.now) }
     requires other { other < container_count (shape_of bank.now) }
+    requires kind { kind_in (shape_of bank.now).starts s ≡ kind.Set }
+    requires other_kind { kind_in (shape_of bank.now).starts other ≡ kind.Set }
     ensures pass { IsPassOf bank.now pass.new }
     ensures stack { stack_of pass.new ≡ stack_of pass.old }
     ensures reads { ReadsBoth (shape_of bank.now) s other (AreOfSets (shape_of bank.now) (λ set others.
@@ -113,6 +122,8 @@ pub(crate) fn is_within(bank: &Bank, pass: &mut Pass, s: Object, other: Object) 
     requires pass { IsPassOf bank.now pass.old }
     requires container { s < container_count (shape_of bank.now) }
     requires other { other < container_count (shape_of bank.now) }
+    requires kind { kind_in (shape_of bank.now).starts s ≡ kind.Set }
+    requires other_kind { kind_in (shape_of bank.now).starts other ≡ kind.Set }
     ensures pass { IsPassOf bank.now pass.new }
     ensures stack { stack_of pass.new ≡ stack_of pass.old }
     ensures reads { ReadsBoth (shape_of bank.now) s other (AreOfSets (shape_of bank.now) (λ set others.
@@ -126,6 +137,8 @@ pub(crate) fn is_apart(bank: &Bank, pass: &mut Pass, s: Object, other: Object) -
     requires pass { IsPassOf bank.now pass.old }
     requires container { s < container_count (shape_of bank.now) }
     requires other { other < container_count (shape_of bank.now) }
+    requires kind { kind_in (shape_of bank.now).starts s ≡ kind.Set }
+    requires other_kind { kind_in (shape_of bank.now).starts other ≡ kind.Set }
     ensures pass { IsPassOf bank.now pass.new }
     ensures stack { stack_of pass.new ≡ stack_of pass.old }
     ensures reads { ReadsBoth (shape_of bank.now) s other (AreOfSets (shape_of bank.now) (λ set others.
@@ -139,6 +152,8 @@ pub(crate) fn are_same_sets(bank: &Bank, pass: &mut Pass, s: Object, other: Obje
     requires pass { IsPassOf bank.now pass.old }
     requires container { s < container_count (shape_of bank.now) }
     requires other { other < container_count (shape_of bank.now) }
+    requires kind { kind_in (shape_of bank.now).starts s ≡ kind.Set }
+    requires other_kind { kind_in (shape_of bank.now).starts other ≡ kind.Set }
     ensures pass { IsPassOf bank.now pass.new }
     ensures stack { stack_of pass.new ≡ stack_of pass.old }
     ensures reads { ReadsBoth (shape_of bank.now) s other (AreOfSets (shape_of bank.now) (λ set others.
@@ -154,6 +169,8 @@ pub(crate) fn are_same_sets(bank: &Bank, pass: &mut Pass, s: Object, other: Obje
 fn find_value(bank: &Bank, pass: &mut Pass, d: Object, key: Key, hash: u64) -> Option<Value>
     requires pass { IsPassOf bank.now pass.old }
     requires container { d < container_count (shape_of bank.now) }
+    requires kind { kind_in (shape_of bank.now).starts d ≡ kind.Dict }
+    requires key { FitsKey key }
     ensures pass { IsPassOf bank.now pass.new }
     ensures stack { stack_of pass.new ≡ stack_of pass.old }
     ensures reads { Reads (shape_of bank.now) d (IsValueIn (shape_of bank.now) hash key result) pass.old pass.new }
@@ -187,6 +204,8 @@ fn differs_at(
     requires pass { IsPassOf bank.now pass.old }
     requires container { d < container_count (shape_of bank.now) }
     requires other { other < container_count (shape_of bank.now) }
+    requires kind { kind_in (shape_of bank.now).starts d ≡ kind.Dict }
+    requires other_kind { kind_in (shape_of bank.now).starts other ≡ kind.Dict }
     requires table { IsTableIn (shape_of bank.now) table }
     ensures pass { IsPassOf bank.now pass.new }
     ensures stack { stack_of pass.new ≡ stack_of pass.old }
@@ -215,6 +234,8 @@ fn some_differs(
     requires pass { IsPassOf bank.now pass.old }
     requires container { d < container_count (shape_of bank.now) }
     requires other { other < container_count (shape_of bank.now) }
+    requires kind { kind_in (shape_of bank.now).starts d ≡ kind.Dict }
+    requires other_kind { kind_in (shape_of bank.now).starts other ≡ kind.Dict }
     requires table { IsTableIn (shape_of bank.now) table }
     ensures pass { IsPassOf bank.now pass.new }
     ensures stack { stack_of pass.new ≡ stack_of pass.old }
@@ -234,6 +255,8 @@ fn are_within(bank: &Bank, pass: &mut Pass, d: Object, other: Object) -> bool
     requires pass { IsPassOf bank.now pass.old }
     requires container { d < container_count (shape_of bank.now) }
     requires other { other < container_count (shape_of bank.now) }
+    requires kind { kind_in (shape_of bank.now).starts d ≡ kind.Dict }
+    requires other_kind { kind_in (shape_of bank.now).starts other ≡ kind.Dict }
     ensures pass { IsPassOf bank.now pass.new }
     ensures stack { stack_of pass.new ≡ stack_of pass.old }
     ensures reads { ReadsBoth (shape_of bank.now) d other (AreOfDicts (shape_of bank.now) (λ dict others.
@@ -252,6 +275,8 @@ pub(crate) fn are_same_dicts(bank: &Bank, pass: &mut Pass, d: Object, other: Obj
     requires pass { IsPassOf bank.now pass.old }
     requires container { d < container_count (shape_of bank.now) }
     requires other { other < container_count (shape_of bank.now) }
+    requires kind { kind_in (shape_of bank.now).starts d ≡ kind.Dict }
+    requires other_kind { kind_in (shape_of bank.now).starts other ≡ kind.Dict }
     ensures pass { IsPassOf bank.now pass.new }
     ensures stack { stack_of pass.new ≡ stack_of pass.old }
     ensures reads { ReadsBoth (shape_of bank.now) d other (AreOfDicts (shape_of bank.now) (λ dict others.

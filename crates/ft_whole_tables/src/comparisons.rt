@@ -65,6 +65,8 @@ fn holds_between(bank: &Bank, pass: &mut Pass, how: Comparison, c: Object, other
     requires pass { IsPassOf bank.now pass.old }
     requires container { c < container_count (shape_of bank.now) }
     requires other { other < container_count (shape_of bank.now) }
+    requires kind { kind_in (shape_of bank.now).starts c ≡ kind_compared how }
+    requires other_kind { kind_in (shape_of bank.now).starts other ≡ kind_compared how }
     ensures pass { IsPassOf bank.now pass.new }
     ensures stack { stack_of pass.new ≡ stack_of pass.old }
     ensures reads { ReadsBoth (shape_of bank.now) c other (IsComparedAs (shape_of bank.now) how result) pass.old
@@ -112,6 +114,8 @@ fn compare_between(
     requires pass { IsPassOf bank.now pass.old }
     requires container { c < container_count (shape_of bank.now) }
     requires other { other < container_count (shape_of bank.now) }
+    requires kind { kind_in (shape_of bank.now).starts c ≡ kind_compared how }
+    requires other_kind { kind_in (shape_of bank.now).starts other ≡ kind_compared how }
     ensures pass { IsPassOf bank.now pass.new }
     ensures stack { stack_of pass.new ≡ stack_of pass.old }
     ensures saw { SawBoth (shape_of bank.now) c other (IsComparedAs (shape_of bank.now) how result.0) result.1 result.2

@@ -2,10 +2,14 @@
 //! lock, whose loads show that it is all where no write came between them, and by one with the lock.
 ghost use Rattle.std.specs.Prelude.{◌≡◌, ◌<◌, ◌++◌, [], true, is_some, length, IfOk, OnErr, OnOk};
 ghost use Rattle.std.specs.List.{cons_option, filter_map};
+ghost use Rattle.ft_model.specs.declared.script.Kind.TheVariants as kind;
 ghost use Rattle.ft_trace.specs.Addresses.{container_count};
+ghost use Rattle.ft_trace.specs.ContainerStates.{kind_in};
+ghost use Rattle.ft_trace.specs.Kinds.{IsKeyed};
 ghost use Rattle.ft_bank.specs.Passes.{shape_of, IsPassOf};
 ghost use Rattle.ft_bank.specs.PassSections.{stack_of};
 ghost use Rattle.ft_bank.specs.TableNames.{table_id, IsTableIn};
+ghost use Rattle.ft_search.specs.Rounds.{kind_by};
 ghost use Rattle.ft_reads.specs.Reads.{Reads};
 ghost use Rattle.ft_reads.specs.Copies.{AreCopied};
 ghost use Rattle.ft_whole_tables.specs.TableEntries.{OfUsed, live_key, plain_pair};
@@ -42,6 +46,7 @@ fn copy_keys(
     fill: u64,
 ) -> Result<Vec<Key>, AllocError>
     requires pass { IsPassOf bank.now pass.old }
+    requires keyed { IsKeyed (kind_in (shape_of bank.now).starts s) }
     requires table { IsTableIn (shape_of bank.now) table }
     ensures pass { IsPassOf bank.now pass.new }
     ensures stack { stack_of pass.new ≡ stack_of pass.old }
@@ -67,6 +72,7 @@ fn copy_values(
     fill: u64,
 ) -> Result<Vec<(Key, Value)>, AllocError>
     requires pass { IsPassOf bank.now pass.old }
+    requires kind { kind_in (shape_of bank.now).starts d ≡ kind.Dict }
     requires table { IsTableIn (shape_of bank.now) table }
     ensures pass { IsPassOf bank.now pass.new }
     ensures stack { stack_of pass.new ≡ stack_of pass.old }
@@ -93,6 +99,7 @@ fn copy_table(
     fill: u64,
 ) -> Result<Reply, AllocError>
     requires pass { IsPassOf bank.now pass.old }
+    requires kind { kind_in (shape_of bank.now).starts c ≡ kind_by way }
     requires table { IsTableIn (shape_of bank.now) table }
     ensures pass { IsPassOf bank.now pass.new }
     ensures stack { stack_of pass.new ≡ stack_of pass.old }
@@ -133,6 +140,7 @@ pub fn copy_all(
 ) -> Result<Reply, AllocError>
     requires pass { IsPassOf bank.now pass.old }
     requires container { c < container_count (shape_of bank.now) }
+    requires kind { kind_in (shape_of bank.now).starts c ≡ kind_by way }
     ensures pass { IsPassOf bank.now pass.new }
     ensures stack { stack_of pass.new ≡ stack_of pass.old }
     ensures of_kind { IfOk result (IsItemsReply way) }

@@ -66,6 +66,7 @@ fn copy_between(
 ) -> (Result<Reply, AllocError>, Window)
     requires pass { IsPassOf bank.now pass.old }
     requires container { c < container_count (shape_of bank.now) }
+    requires kind { kind_in (shape_of bank.now).starts c ≡ kind_by way }
     ensures pass { IsPassOf bank.now pass.new }
     ensures stack { stack_of pass.new ≡ stack_of pass.old }
     ensures of_kind { IfOk result.0 (IsItemsReply way) }

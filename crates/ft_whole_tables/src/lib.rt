@@ -15,7 +15,6 @@ mod finding;
 mod items;
 mod membership;
 mod places;
-mod values;
 
 pub use crate::clearing::{clear_keyed, root_table};
 pub use crate::clears::clear_as;
@@ -26,4 +25,3 @@ pub use crate::finding::find_key;
 pub use crate::items::{items_locked, look_all_items};
 pub use crate::membership::has_locked;
 pub use crate::places::{first_place, last_place};
-pub use crate::values::value_of;

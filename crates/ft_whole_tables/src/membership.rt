@@ -2,7 +2,7 @@
 ghost use Rattle.std.specs.Prelude.{◌≡◌, ◌<◌, true, false};
 ghost use Rattle.ft_trace.specs.Acts.{has_lock};
 ghost use Rattle.ft_trace.specs.Addresses.{container_count};
-ghost use Rattle.ft_trace.specs.Holds.{held_words, known_state};
+ghost use Rattle.ft_trace.specs.Holds.{held_unboxed, known_state};
 ghost use Rattle.ft_trace.specs.Pictures.{Represents};
 ghost use Rattle.ft_trace.specs.ContainerStates.{kind_in};
 ghost use Rattle.ft_bank.specs.Answered.{Answered};
@@ -43,7 +43,7 @@ pub fn has_locked(bank: &Bank, pass: &mut Pass, way: Way, c: Object, key: Key) -
     requires kind { kind_in (shape_of bank.now).starts c ≡ kind_by way }
     requires key { IsKeyIn (shape_of bank.now) key }
     requires locked { has_lock c (view pass.old).log ≡ true }
-    requires stands { Represents (shape_of bank.now).texts (held_words c (view pass.old)) (known_state c (view pass.old)) }
+    requires stands { Represents (shape_of bank.now).texts (held_unboxed c (view pass.old)) (known_state c (view pass.old)) }
     requires left { 0 < (view pass.old).left }
     ensures pass { IsPassOf bank.now pass.new }
     ensures sections { stack_of pass.new ≡ stack_of pass.old }

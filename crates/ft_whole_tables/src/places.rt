@@ -1,5 +1,7 @@
 //! The first and the last entry of a table that is there.
 ghost use Rattle.std.specs.Prelude.{◌≡◌};
+ghost use Rattle.ft_trace.specs.ContainerStates.{kind_in};
+ghost use Rattle.ft_trace.specs.Kinds.{IsKeyed};
 ghost use Rattle.ft_bank.specs.Passes.{shape_of, IsPassOf};
 ghost use Rattle.ft_bank.specs.PassSections.{stack_of};
 ghost use Rattle.ft_bank.specs.TableNames.{table_id, IsTableIn};
@@ -14,6 +16,7 @@ use ft_section::Object;
 /// The place of the first entry that is there, of as many as were used.
 pub fn first_place(bank: &Bank, pass: &mut Pass, o: Object, table: Table, fill: u64) -> Option<u64>
     requires pass { IsPassOf bank.now pass.old }
+    requires keyed { IsKeyed (kind_in (shape_of bank.now).starts o) }
     requires table { IsTableIn (shape_of bank.now) table }
     ensures pass { IsPassOf bank.now pass.new }
     ensures stack { stack_of pass.new ≡ stack_of pass.old }
@@ -31,6 +34,7 @@ pub fn first_place(bank: &Bank, pass: &mut Pass, o: Object, table: Table, fill: 
 /// The place of the last entry that is there, of as many as were used.
 pub fn last_place(bank: &Bank, pass: &mut Pass, o: Object, table: Table, fill: u64) -> Option<u64>
     requires pass { IsPassOf bank.now pass.old }
+    requires keyed { IsKeyed (kind_in (shape_of bank.now).starts o) }
     requires table { IsTableIn (shape_of bank.now) table }
     ensures pass { IsPassOf bank.now pass.new }
     ensures stack { stack_of pass.new ≡ stack_of pass.old }

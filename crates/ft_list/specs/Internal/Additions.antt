@@ -9,7 +9,7 @@ use Rattle.ft_trace.specs.declared.Shape.{Shape}
 use Rattle.ft_trace.specs.declared.View.{View}
 use Rattle.ft_trace.specs.Acts.{has_lock, is_writing}
 use Rattle.ft_trace.specs.Addresses.{container_count, class_of, slots}
-use Rattle.ft_trace.specs.Holds.{held_words, known_state}
+use Rattle.ft_trace.specs.Holds.{held_unboxed, known_state}
 use Rattle.ft_trace.specs.Pictures.{root_in, Represents, item_field}
 use Rattle.ft_trace.specs.ContainerStates.{kind_in}
 use Rattle.ft_list.specs.declared.addition.Addition.{Addition}
@@ -38,7 +38,7 @@ pub record KnowsItems (k : Shape) (o : ℕ) (v : View) : Type 0 where
   pub kind : kind_in k.starts o ≡ kind.List
   pub locked : has_lock o v.log ≡ true
   pub even : is_writing o v.log ≡ false
-  pub stands : Represents k.texts (held_words o v) (known_state o v)
+  pub stands : Represents k.texts (held_unboxed o v) (known_state o v)
 
 -- The addition is a value that words can represent, at a place of a list of that many items; or all the items of a list
 -- that the pass knows, of which there are as many as it says.
@@ -50,12 +50,13 @@ IsAddition k count (All other more) v = (more ≡ length (known_items other v)) 
 -- that the root of m names stores the items of m as they were before that write. (profile)
 pub record GivesItems (k : Shape) (o m : ℕ) (v : View) : Type 0 where
   pub container : m < container_count k
+  pub kind : kind_in k.starts m ≡ kind.List
   pub locked : has_lock m v.log ≡ true
   pub quiet : m ≢ o → is_writing m v.log ≡ false
-  pub stores : (t p : ℕ) → root_in (held_words m v) ≡ suc t → p < length (known_items m v) → (p < slots (class_of t))
-      × IsStored (item_field (held_words m v).table p 1) (item_field (held_words m v).table p 2)
+  pub stores : (t p : ℕ) → root_in (held_unboxed m v) ≡ suc t → p < length (known_items m v) → (p < slots (class_of t))
+      × IsStored (item_field (held_unboxed m v).table p 1) (item_field (held_unboxed m v).table p 2)
       (stored_item (known_items m v) p)
-  pub bare : root_in (held_words m v) ≡ 0 → length (known_items m v) ≡ 0
+  pub bare : root_in (held_unboxed m v) ≡ 0 → length (known_items m v) ≡ 0
 
 -- the same of an addition once the pass writes the list o, of that many items
 abbrev pub IsAdditionTo : Shape → ℕ → ℕ → Addition → View → Type 0

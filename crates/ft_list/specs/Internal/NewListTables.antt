@@ -7,13 +7,18 @@ use Rattle.ft_layout.specs.declared.slot.Stored.{Stored}
 use Rattle.ft_layout.specs.Words.{IsStored, stored_kind, stored_payload}
 use Rattle.ft_trace.specs.declared.Shape.{Shape}
 use Rattle.ft_trace.specs.declared.View.{View}
-use Rattle.ft_trace.specs.Acts.{has_lock, is_writing, owes, stage, used, flight}
+use Rattle.ft_trace.specs.declared.Act.TheVariants.{StartWrite, PutRoot}
+use Rattle.ft_trace.specs.Acts.{has_lock, is_writing, owes, stage, used, flight, view_after}
+use Rattle.ft_trace.specs.Boxes.{IsDoneWithBoxes}
 use Rattle.ft_trace.specs.Addresses.{container_count, class_of, size}
-use Rattle.ft_trace.specs.Holds.{held_words, known_state}
+use Rattle.ft_trace.specs.Holds.{held_unboxed, known_state}
 use Rattle.ft_trace.specs.Pictures.{root_in, Represents, item_offset, item_field}
 use Rattle.ft_trace.specs.ContainerStates.{kind_in}
 use Rattle.ft_bank.specs.declared.table.Table.{Table}
 use Rattle.ft_bank.specs.TableNames.{table_id, root_for, IsTableIn}
+use Rattle.ft_bank.specs.SameBoxes.{MovesReferences}
+use Rattle.ft_bank.specs.Whole.{OnlyWritten}
+use Rattle.ft_bank.specs.WriteSteps.{KeepsUnwritten}
 use Rattle.ft_list.specs.ListItemWrites.{stored_item}
 
 -- what a list has that has this table, or none
@@ -28,19 +33,20 @@ pub record KnowsList (k : Shape) (o : ℕ) (old : Option Table) (v : View) : Typ
   pub kind : kind_in k.starts o ≡ kind.List
   pub locked : has_lock o v.log ≡ true
   pub even : is_writing o v.log ≡ false
-  pub stands : Represents k.texts (held_words o v) (known_state o v)
+  pub stands : Represents k.texts (held_unboxed o v) (known_state o v)
   pub table_in : (t : Table) → old ≡ Some t → IsTableIn k t
-  pub root : root_in (held_words o v) ≡ root_for old
+  pub root : root_in (held_unboxed o v) ≡ root_for old
 
 -- Besides it writes no container, is in the midst of no taking or giving of a table, and of no other write that took a
--- table out of a root; it has lowered no count of a class that it hasn't raised again, and it has a call left.
--- (profile)
+-- table out of a root; it has lowered no count of a class that it hasn't raised again, holds no reference for a box and
+-- makes none, and it has a call left. (profile)
 pub record MayAdd (k : Shape) (o : ℕ) (old : Option Table) (v : View) : Type 0 where
   pub list : KnowsList k o old v
   pub even : (p : ℕ) → is_writing p v.log ≡ false
   pub used : used v.log ≡ false
   pub owes : owes v.log ≡ 0
   pub idle : flight v.log ≡ 0
+  pub boxes : IsDoneWithBoxes k v.log
   pub left : 0 < v.left
 
 -- Or it has taken this table, which is fresh in its hand, and has raised no count since. (profile)
@@ -51,7 +57,18 @@ pub record MayGrowList (k : Shape) (o : ℕ) (old : Option Table) (table : Table
   pub owed : owes v.log ≡ suc (class_of (table_id table))
   pub fresh : stage (table_id table) v.log ≡ 1
   pub table_in : IsTableIn k table
+  pub boxes : IsDoneWithBoxes k v.log
   pub left : 0 < v.left
+
+-- The pass has made the version of the list o odd and put this root; then it has dropped references for boxes that the
+-- words of o have no longer. (profile)
+pub record HasRooted (o root : ℕ) (v w : View) : Type 0 where
+  pub start : ℕ
+  pub rooted : View
+  pub did : rooted ≡ view_after (PutRoot o root (root_in (held_unboxed o v))) (view_after (StartWrite o start) v)
+  pub keeps : KeepsUnwritten (view_after (StartWrite o start) v) rooted
+  pub moves : MovesReferences o (view_after (StartWrite o start) v) rooted
+  pub only : OnlyWritten o rooted w
 
 -- the words of a table once an item stores this, with version 0
 abbrev pub with_new_item : List ℕ → ℕ → Stored → List ℕ

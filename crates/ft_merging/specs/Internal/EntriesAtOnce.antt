@@ -9,7 +9,7 @@ use Rattle.ft_trace.specs.declared.View.{View}
 use Rattle.ft_trace.specs.Acts.{has_committed}
 use Rattle.ft_trace.specs.Addresses.{class_of, slots}
 use Rattle.ft_trace.specs.Carefuls.{IsDead, HasLiveKey, OpensChanged}
-use Rattle.ft_trace.specs.Holds.{held_words, known_state}
+use Rattle.ft_trace.specs.Holds.{held_unboxed, known_state}
 use Rattle.ft_trace.specs.Kinds.{rows, under}
 use Rattle.ft_trace.specs.Pictures.{entry_field, ContainerWords, Represents}
 use Rattle.ft_trace.specs.ContainerStates.{ContainerState, state_at, kind_in, changes}
@@ -34,28 +34,28 @@ NoneDead t m x kept =
 pub record IsMidway (k : Shape) (o : ℕ) (table : Table) (mid : ContainerState) (v : View) : Type 0 where
   pub writes : WritesEntries k o table v
   pub early : has_committed o v.log ≡ false
-  pub stands : Represents k.texts (held_words o v) mid
+  pub stands : Represents k.texts (held_unboxed o v) mid
   pub same : (p : ℕ) (key : Key) → p < rows (kind_in k.starts o) (class_of (table_id table))
-      → version_of (table_id table) (held_words o v) p % 2 ≡ 0
-      → HasLiveKey (slots (class_of (table_id table))) (held_words o v).table p key
+      → version_of (table_id table) (held_unboxed o v) p % 2 ≡ 0
+      → HasLiveKey (slots (class_of (table_id table))) (held_unboxed o v).table p key
       → under mid.content key ≡ under (known_state o v).content key
   pub opens : OpensChanged (slots (class_of (table_id table))) (rows (kind_in k.starts o) (class_of (table_id table)))
-      (held_words o v).table (under (known_state o v).content) (under mid.content)
-  pub gone : NoneDead (table_id table) (rows (kind_in k.starts o) (class_of (table_id table))) (held_words o v) mid
+      (held_unboxed o v).table (under (known_state o v).content) (under mid.content)
+  pub gone : NoneDead (table_id table) (rows (kind_in k.starts o) (class_of (table_id table))) (held_unboxed o v) mid
   pub opened : (p : ℕ) → p < rows (kind_in k.starts o) (class_of (table_id table))
-      → version_of (table_id table) (held_words o v) p % 2 ≡ 1 → p < mid.table.fill
+      → version_of (table_id table) (held_unboxed o v) p % 2 ≡ 1 → p < mid.table.fill
 
 -- The counter is raised; the versions of the entries before this place are even again. (profile)
 pub record IsClosing (k : Shape) (o : ℕ) (table : Table) (from fill : ℕ) (v : View) : Type 0 where
   pub writes : WritesEntries k o table v
   pub late : has_committed o v.log ≡ true
-  pub stands : Represents k.texts (held_words o v) (known_state o v)
+  pub stands : Represents k.texts (held_unboxed o v) (known_state o v)
   pub gone : NoneDead (table_id table) (rows (kind_in k.starts o) (class_of (table_id table)))
-      (held_words o v) (known_state o v)
+      (held_unboxed o v) (known_state o v)
   pub opened : (p : ℕ) → p < rows (kind_in k.starts o) (class_of (table_id table))
-      → version_of (table_id table) (held_words o v) p % 2 ≡ 1 → p < fill
+      → version_of (table_id table) (held_unboxed o v) p % 2 ≡ 1 → p < fill
   pub shut : (p : ℕ) → p < rows (kind_in k.starts o) (class_of (table_id table)) → p < from
-      → version_of (table_id table) (held_words o v) p % 2 ≡ 0
+      → version_of (table_id table) (held_unboxed o v) p % 2 ≡ 0
 
 -- The call may be committed, and the words say what it leaves of the container; that many entries of its table are
 -- used. (profile)

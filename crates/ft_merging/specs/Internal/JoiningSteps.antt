@@ -19,7 +19,7 @@ use Rattle.ft_trace.specs.declared.View.{View}
 use Rattle.ft_trace.specs.Addresses.{class_of, slots}
 use Rattle.ft_trace.specs.Carefuls.{IsDead, HasLiveKey}
 use Rattle.ft_trace.specs.EntryWrites.{value_puts}
-use Rattle.ft_trace.specs.Holds.{held_words, known_state}
+use Rattle.ft_trace.specs.Holds.{held_unboxed, known_state}
 use Rattle.ft_trace.specs.Kinds.{rows, under}
 use Rattle.ft_trace.specs.Pictures.{ContainerWords, entry_field}
 use Rattle.ft_trace.specs.ContainerStates.{kind_in}
@@ -114,14 +114,14 @@ pub record IsJoining (k : Shape) (o : ℕ) (way : Way) (own : Table) (t : ℕ) (
   pub kind_is : kind_in k.starts o ≡ kind_by way
   pub count_is : counts.count ≡ length_of mid
   pub next_is : counts.next ≡ serial_of mid
-  pub alive : NoneGone (table_id own) (rows (kind_in k.starts o) (class_of (table_id own))) (held_words o v)
+  pub alive : NoneGone (table_id own) (rows (kind_in k.starts o) (class_of (table_id own))) (held_unboxed o v)
   pub room : end ≤ rows (kind_in k.starts o) (class_of (table_id own))
   pub used : List UsedEntry
   pub filled : length used ≡ (known_state t v).table.fill
-  pub source : IsTableOf way k.texts (class_mask (class_of (table_id table))) used (0 ∷ 0 ∷ (held_words t v).table)
+  pub source : IsTableOf way k.texts (class_mask (class_of (table_id table))) used (0 ∷ 0 ∷ (held_unboxed t v).table)
   pub left : AreLeft (kind_by way) mid goal counts.fill end (drop place used)
   pub ahead : NoneAhead (table_id own) (rows (kind_in k.starts o) (class_of (table_id own)))
-      (held_words o v) (drop place used)
+      (held_unboxed o v) (drop place used)
 
 -- Where a key is in the table of a container that is written, whose words stand for this content: in the entry at this
 -- place, with these words of its value; or nowhere, and this slot is the one for it. No search there ends otherwise.
@@ -141,6 +141,6 @@ IsSought k way own key x mid spot.Bare = ⊥
 abbrev pub stored_puts : ℕ → List ℕ → ℕ → Stored → List Put
 stored_puts n words place (Plain value) =
     if are_of_value (entry_field n words place 4) (entry_field n words place 5) value then []
-    else value_puts n words place value
+    else value_puts n words place None value
 stored_puts n words place Empty = []
 stored_puts n words place (Boxed block) = []

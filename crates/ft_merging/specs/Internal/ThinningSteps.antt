@@ -9,7 +9,7 @@ use Rattle.ft_trace.specs.declared.View.{View}
 use Rattle.ft_trace.specs.Addresses.{class_of, slots}
 use Rattle.ft_trace.specs.Carefuls.{HasLiveKey}
 use Rattle.ft_trace.specs.FitCalls.{FitsContent}
-use Rattle.ft_trace.specs.Holds.{held_words, known_state}
+use Rattle.ft_trace.specs.Holds.{held_unboxed, known_state}
 use Rattle.ft_trace.specs.Kinds.{rows}
 use Rattle.ft_trace.specs.ContainerStates.{ContainerState, kind_in}
 use Rattle.ft_bank.specs.declared.table.Table.{Table}
@@ -34,10 +34,10 @@ pub record IsThinned (k : Shape) (s : ℕ) (table : Table) (kept : Bool) (others
     elements = filter (λ element. spared kept others first element.key) mid.elements;
   }) ≡ to.content
   pub even : (p : ℕ) → p < rows (kind_in k.starts s) (class_of (table_id table)) → place ≤ p → p < last
-      → version_of (table_id table) (held_words s v) p % 2 ≡ 0
+      → version_of (table_id table) (held_unboxed s v) p % 2 ≡ 0
   pub done : (p : ℕ) (key : Key) → p < rows (kind_in k.starts s) (class_of (table_id table)) → p < place → FitsKey key
-      → HasLiveKey (slots (class_of (table_id table))) (held_words s v).table p key
+      → HasLiveKey (slots (class_of (table_id table))) (held_unboxed s v).table p key
       → spared kept others first key ≡ true
   pub rest : (p : ℕ) (key : Key) → p < rows (kind_in k.starts s) (class_of (table_id table)) → last ≤ p → FitsKey key
-      → HasLiveKey (slots (class_of (table_id table))) (held_words s v).table p key
+      → HasLiveKey (slots (class_of (table_id table))) (held_unboxed s v).table p key
       → spared kept others first key ≡ true

@@ -36,11 +36,12 @@ with_entry t slot counts pair x =
     }
 
 -- In these words of a table with n index slots and m entries neither the slot nor the entry at the place was ever used,
--- and the entry's version is even. (profile)
+-- the entry's version is even, and it stores nothing. (profile)
 pub record IsUnused (n m : ℕ) (words : List ℕ) (slot place : ℕ) : Type 0 where
   pub low : place < m
   pub in_index : slot < n
   pub long : n + 8 * m ≤ length words
   pub even : entry_field n words place 0 % 2 ≡ 0
   pub none : entry_field n words place 2 ≡ 0
+  pub stores : entry_field n words place 4 ≡ 0
   pub free : index_field words slot ≡ 0

@@ -11,7 +11,7 @@ use Rattle.ft_layout.specs.Tables.{IsSetTable, UsedEntry, hash_of, is_live}
 use Rattle.ft_trace.specs.declared.Shape.{Shape}
 use Rattle.ft_trace.specs.declared.View.{View}
 use Rattle.ft_trace.specs.Addresses.{class_of, slots}
-use Rattle.ft_trace.specs.Holds.{held_words, in_hand, known_state}
+use Rattle.ft_trace.specs.Holds.{held_unboxed, in_hand, known_state}
 use Rattle.ft_trace.specs.Kinds.{rows}
 use Rattle.ft_trace.specs.Pictures.{entry_field}
 use Rattle.ft_bank.specs.declared.table.Table.{Table}
@@ -56,7 +56,7 @@ pub record HasChosen (k : Shape) (table : Table) (elements : List Element) (coun
 -- there. For all of them there is room, and then they are a set's. (profile)
 pub record IsChosen (k : Shape) (s : ℕ) (from : Table) (t : ℕ) (table : Table) (first : Option ℕ) (start : ℕ)
     (used : List UsedEntry) (mine : List Element) (place count : ℕ) (v : View) : Type 0 where
-  pub source : IsSetTable k.texts (class_mask (class_of (table_id from))) used (0 ∷ 0 ∷ (held_words s v).table)
+  pub source : IsSetTable k.texts (class_mask (class_of (table_id from))) used (0 ∷ 0 ∷ (held_unboxed s v).table)
   pub filled : length used ≡ (known_state s v).table.fill
   pub started : length mine ≡ start
   pub next : ℕ

@@ -1,9 +1,9 @@
-use Rattle.std.proofs.Common.{◌≡◌, ℕ, List, [], ◌∷◌, ◌++◌, Option, sym, ap, ◌∙◌, subst}
+use Rattle.std.proofs.Common.{◌≡◌, List, [], ◌∷◌, ◌++◌, Option, ap, ◌∙◌, subst}
 use Rattle.std.specs.Option.{option_to_list}
 use Rattle.ft_trace.specs.declared.View.{View}
 use Rattle.ft_trace.specs.Acts.{flight, owes}
 use Rattle.ft_bank.specs.declared.pass.Pass.{Pass}
-use Rattle.ft_bank.specs.NewPasses.{AreOpening, IsOpening}
+use Rattle.ft_bank.specs.NewPasses.{AreOpening}
 use Rattle.ft_bank_tests.proofs.Opening.{opening_front, opening_last}
 use Rattle.ft_bank_tests.proofs.shapes.take_each.Goals as goal
 

@@ -1,5 +1,3 @@
-use Rattle.std.proofs.Common.{◌≡◌, ◌<◌, refl, sym, subst}
-use Rattle.ft_trace.specs.declared.Shape.{Shape}
 use Rattle.ft_bank.specs.Passes.{shape_of, view}
 use Rattle.ft_bank_tests.proofs.Reversing.{may_commit, shut_after, stands_after, wrote}
 use Rattle.ft_bank_tests.proofs.writes.reverse.Goals as goal

@@ -21,7 +21,7 @@ pub returns-in-At-clause-made : goal.returns-in-At-clause-made
 returns-in-At-clause-made c =
     let e = c.seek_key.ensures in
     let n = c.delete_entry-number.ensures in
-    written_made c.args.d (record { content = without_key (known_state c.args.d (view c.seek_key.new.pass)).content c.args.key; table = (known_state c.args.d (view c.seek_key.new.pass)).table }) (call.Dict c.args.d (dict.Del c.args.key)) (reply.Done) c.delete_entry-number.result c.written.result (view c.args.pass.now) (view c.seek_key.new.pass) (view c.delete_entry-number.new.pass) e.loads.0 e.keeps e.loads.1 (leaves (goal.at.returns-in-At-clause-made c).In-At) n.wrote n.root c.written.ensures
+    written_made c.args.d (record { content = without_key (known_state c.args.d (view c.seek_key.new.pass)).content c.args.key; table = (known_state c.args.d (view c.seek_key.new.pass)).table }) (call.Dict c.args.d (dict.Del c.args.key)) (reply.Done) c.delete_entry-number.result c.written.result (view c.args.pass.now) (view c.seek_key.new.pass) (view c.delete_entry-number.new.pass) e.loads.0 e.keeps e.loads.1 (leaves (goal.at.returns-in-At-clause-made c).In-At) n.wrote n.root n.references c.written.ensures
 
 raises-Free : (c : In-Free) → IsShownBy (call.Dict c.args.d (dict.Del c.args.key)) (reply.Raised raise.NoKey) (view c.seek_key.new.pass)
 raises-Free c = let p = deleted.known_dict (shape_of c.args.bank.now) (view c.seek_key.new.pass) c.args.d c.seek_key.ensures.pass.1 c.seek_key.new.pass.possible c.seek_key.ensures.may c.requires.dict in deleted.del_raises c.args.d (view c.seek_key.new.pass) p.0 p.2 c.seek_key.ensures.may.locked p.1 c.args.key c.seek_key.ensures.key c.in-Free.ensures.spot.3

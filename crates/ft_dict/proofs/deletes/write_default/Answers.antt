@@ -23,4 +23,4 @@ pub returns-clause-made : goal.returns-clause-made
 returns-clause-made c =
     let v = view c.args.pass.now in
     let n = c.write_nothing-number.ensures in
-    written_made c.args.d (known_state c.args.d v) (call.Dict c.args.d (dict.PopOr c.args.key c.args.default)) (reply.Value c.args.default) c.write_nothing-number.result c.written.result v v (view c.write_nothing-number.new.pass) [] (loaded_same v) refl (leaves (goal.at.returns-clause-made c).After-value_fits) n.wrote n.root c.written.ensures
+    written_made c.args.d (known_state c.args.d v) (call.Dict c.args.d (dict.PopOr c.args.key c.args.default)) (reply.Value c.args.default) c.write_nothing-number.result c.written.result v v (view c.write_nothing-number.new.pass) [] (loaded_same v) refl (leaves (goal.at.returns-clause-made c).After-value_fits) n.wrote n.root n.references c.written.ensures

@@ -1,4 +1,5 @@
 use Rattle.std.proofs.Common.{ℕ, Option, None, Some, sym, subst}
+use Rattle.ft_trace.specs.Kinds.{IsKeyed}
 use Rattle.ft_bank.specs.Passes.{shape_of}
 use Rattle.ft_bank.specs.TableNames.{table_id}
 use Rattle.ft_reads.specs.Reads.{Reads}
@@ -9,6 +10,9 @@ use Rattle.ft_dict.specs.declared.lasts.Last.{Last}
 use Rattle.ft_dict.specs.Lasts.{IsLastIn}
 use Rattle.ft_dict.proofs.Popping.{last_found, last_none}
 use Rattle.ft_dict.proofs.lasts.last_in.Goals as goal
+
+pub last_place-requires-clause-keyed : goal.last_place-requires-clause-keyed
+last_place-requires-clause-keyed c = subst IsKeyed (sym c.requires.dict) tt
 
 pub returns-in-Some-clause-reads : goal.returns-in-Some-clause-reads
 returns-in-Some-clause-reads c =

@@ -3,7 +3,7 @@ use Rattle.ft_model.specs.declared.call.Call.TheVariants as call
 use Rattle.ft_model.specs.declared.call.DictCall.TheVariants as dict
 use Rattle.ft_model.specs.declared.reply.Reply.TheVariants as reply
 use Rattle.ft_model.specs.declared.reply.Raise.TheVariants as raise
-use Rattle.ft_trace.specs.Holds.{held_words, known_state}
+use Rattle.ft_trace.specs.Holds.{held_unboxed, known_state}
 use Rattle.ft_bank.specs.Passes.{shape_of, view}
 use Rattle.ft_search.specs.OneEntryWrites.{Leaves, MayWriteEntries, without_key}
 use Rattle.ft_search.proofs.Calling.{answer_loaded, written_made}
@@ -17,13 +17,13 @@ use Rattle.ft_dict.proofs.lasts.popitem_locked.Goals as goal
 use Rattle.ft_dict.proofs.lasts.popitem_locked.Goals.{After-last_pair}
 
 may : (c : After-last_pair) → MayWriteEntries (shape_of c.args.bank.now) c.args.d (view c.last_pair.new.pass)
-may c = read_may (shape_of c.args.bank.now) c.args.d (IsLastOf (shape_of c.args.bank.now) c.last_pair.result) c.args.pass.now c.last_pair.new.pass c.last_pair.ensures.reads c.requires.may
+may c = read_may (shape_of c.args.bank.now) c.args.d (IsLastOf (shape_of c.args.bank.now) c.last_pair.result) c.args.pass.now c.last_pair.new.pass c.requires.pass.1 c.last_pair.ensures.reads c.requires.may
 
-found : (c : After-last_pair) → IsLastOf (shape_of c.args.bank.now) c.last_pair.result (held_words c.args.d (view c.last_pair.new.pass))
-found c = read_later (shape_of c.args.bank.now) c.args.d (IsLastOf (shape_of c.args.bank.now) c.last_pair.result) c.args.pass.now c.last_pair.new.pass c.last_pair.ensures.reads c.requires.may
+found : (c : After-last_pair) → IsLastOf (shape_of c.args.bank.now) c.last_pair.result (held_unboxed c.args.d (view c.last_pair.new.pass))
+found c = read_later (shape_of c.args.bank.now) c.args.d (IsLastOf (shape_of c.args.bank.now) c.last_pair.result) c.args.pass.now c.last_pair.new.pass c.requires.pass.1 c.last_pair.ensures.reads c.requires.may
 
-here : (c : After-last_pair) (last : Last) → c.last_pair.result ≡ Some last → IsLastOf (shape_of c.args.bank.now) (Some last) (held_words c.args.d (view c.last_pair.new.pass))
-here c last is = subst (λ z. IsLastOf (shape_of c.args.bank.now) z (held_words c.args.d (view c.last_pair.new.pass))) is (found c)
+here : (c : After-last_pair) (last : Last) → c.last_pair.result ≡ Some last → IsLastOf (shape_of c.args.bank.now) (Some last) (held_unboxed c.args.d (view c.last_pair.new.pass))
+here c last is = subst (λ z. IsLastOf (shape_of c.args.bank.now) z (held_unboxed c.args.d (view c.last_pair.new.pass))) is (found c)
 
 leaves : (c : After-last_pair) (last : Last) → c.last_pair.result ≡ Some last → Leaves c.args.d (call.Dict c.args.d dict.PopItem) (reply.Pair last.key last.value) (record { content = without_key (known_state c.args.d (view c.last_pair.new.pass)).content last.key; table = (known_state c.args.d (view c.last_pair.new.pass)).table }) (view c.last_pair.new.pass)
 leaves c last is = popped_leaves (shape_of c.args.bank.now) c.args.d (view c.last_pair.new.pass) c.last_pair.ensures.pass.1 c.last_pair.new.pass.possible (may c) c.requires.dict last (here c last is)
@@ -52,7 +52,7 @@ returns-in-Some-clause-made c =
     let q = c.last_pair.new.pass in
     let n = c.delete_entry-number.ensures in
     written_made c.args.d (record { content = without_key (known_state c.args.d (view q)).content c.in-Some.last.key; table = (known_state c.args.d (view q)).table }) (call.Dict c.args.d dict.PopItem) (reply.Pair c.in-Some.last.key c.in-Some.last.value) c.delete_entry-number.result c.written.result (view p) (view q) (view c.delete_entry-number.new.pass) r.0
-    (reads_loaded (shape_of c.args.bank.now) c.args.d (IsLastOf (shape_of c.args.bank.now) c.last_pair.result) p q r) (did_log r.0 p q r.2) (leaves d c.in-Some.last c.in-Some.is) n.wrote n.root c.written.ensures
+    (reads_loaded (shape_of c.args.bank.now) c.args.d (IsLastOf (shape_of c.args.bank.now) c.last_pair.result) p q r) (did_log r.0 p q r.2) (leaves d c.in-Some.last c.in-Some.is) n.wrote n.root n.references c.written.ensures
 
 pub answer_made-requires-clause-left : goal.answer_made-requires-clause-left
 answer_made-requires-clause-left c = (may (goal.at.answer_made-requires-clause-left c).After-last_pair).left
@@ -60,7 +60,7 @@ answer_made-requires-clause-left c = (may (goal.at.answer_made-requires-clause-l
 pub answer_made-requires-clause-shown : goal.answer_made-requires-clause-shown
 answer_made-requires-clause-shown c =
     let d = (goal.at.answer_made-requires-clause-shown c).After-last_pair in
-    popped_raises (shape_of c.args.bank.now) c.args.d (view c.last_pair.new.pass) c.last_pair.ensures.pass.1 c.last_pair.new.pass.possible (may d) c.requires.dict (subst (λ z. IsLastOf (shape_of c.args.bank.now) z (held_words c.args.d (view c.last_pair.new.pass))) c.in-None.is (found d))
+    popped_raises (shape_of c.args.bank.now) c.args.d (view c.last_pair.new.pass) c.last_pair.ensures.pass.1 c.last_pair.new.pass.possible (may d) c.requires.dict (subst (λ z. IsLastOf (shape_of c.args.bank.now) z (held_unboxed c.args.d (view c.last_pair.new.pass))) c.in-None.is (found d))
 
 pub returns-in-None-clause-made : goal.returns-in-None-clause-made
 returns-in-None-clause-made c =

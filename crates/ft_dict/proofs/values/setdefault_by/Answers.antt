@@ -12,7 +12,7 @@ use Rattle.ft_layout.specs.declared.slot.Stored.TheVariants.{Plain}
 use Rattle.ft_keys.specs.declared.walk.Way.TheVariants as way
 use Rattle.ft_trace.specs.declared.Shape.{Shape}
 use Rattle.ft_trace.specs.Addresses.{container_count}
-use Rattle.ft_trace.specs.Holds.{held_words, known_state}
+use Rattle.ft_trace.specs.Holds.{held_unboxed, known_state}
 use Rattle.ft_trace.specs.ContainerStates.{ContainerState}
 use Rattle.ft_bank.specs.declared.table.Table.{Table}
 use Rattle.ft_bank.specs.Passes.{shape_of, view}
@@ -80,7 +80,7 @@ returns-in-At-clause-added c =
     let value : c.value_at.result ≡ unwrap_or (dict_get (dict_of (known_state a.d (view a.pass.now)).content).pairs a.key) a.default =
     ap (λ (z : Option Value). unwrap_or z a.default) (sym (deleted.value_there a.d u p.0 p.2 c.seek_key.ensures.may.locked p.1 a.key c.seek_key.ensures.key c.value_at.result c.value_at.ensures n.wrote.found n.wrote.has)) ∙ ap (λ (z : Content). unwrap_or (dict_get (dict_of z).pairs a.key) a.default) (sym p.1 ∙ same s) in (
       ap reply.Value value,
-      puts_present (shape_of a.bank.now) a.d a.key (call.Dict a.d (dict.SetDefault a.key a.default)) said (view a.pass.now) u w c.seek_key.ensures.keeps c.written.result (leaves at).changed there (ap (λ (z : Stamp). z.wrote) c.written.ensures) (subst (λ (z : Stamp). Wrote (call.Dict a.d (dict.SetDefault a.key a.default)) said z.number u w) (sym c.written.ensures) n.wrote) n.root,
+      puts_present (shape_of a.bank.now) a.d a.key (call.Dict a.d (dict.SetDefault a.key a.default)) said (view a.pass.now) u w c.seek_key.ensures.keeps c.written.result (leaves at).changed there (ap (λ (z : Stamp). z.wrote) c.written.ensures) (subst (λ (z : Stamp). Wrote (call.Dict a.d (dict.SetDefault a.key a.default)) said z.number u w) (sym c.written.ensures) n.wrote) n.root n.references,
     )
 
 -- ---- a table that has the key nowhere
@@ -94,7 +94,7 @@ add_key-added-requires-clause-may c =
 pub add_key-added-requires-clause-slot : goal.add_key-added-requires-clause-slot
 add_key-added-requires-clause-slot c t is =
     let a = c.args in
-    subst (λ (z : Table). IsFreeFor (shape_of a.bank.now).texts way.Dict z.class a.key (held_words a.d (view c.seek_key.new.pass)).table c.in-Free.slot) (ap (λ (z : Option Table). unwrap_or z c.in-Free.table) is) (c.in-Free.ensures.spot.1, c.in-Free.ensures.spot.2)
+    subst (λ (z : Table). IsFreeFor (shape_of a.bank.now).texts way.Dict z.class a.key (held_unboxed a.d (view c.seek_key.new.pass)).table c.in-Free.slot) (ap (λ (z : Option Table). unwrap_or z c.in-Free.table) is) (c.in-Free.ensures.spot.1, c.in-Free.ensures.spot.2)
 
 pub add_key-added-requires-clause-absent : goal.add_key-added-requires-clause-absent
 add_key-added-requires-clause-absent c = c.in-Free.ensures.spot.3

@@ -1,4 +1,4 @@
-use Rattle.std.proofs.Common.{◌≡◌, false, sym, ap, ◌∙◌, subst, true≢false}
+use Rattle.std.proofs.Common.{◌≡◌, None, false, sym, ap, ◌∙◌, subst, true≢false}
 use Rattle.ft_model.specs.declared.script.Kind.{Kind}
 use Rattle.ft_model.specs.declared.script.Start.{Start}
 use Rattle.std.specs.Prelude.{List}
@@ -6,7 +6,7 @@ use Rattle.ft_trace.specs.declared.View.{View}
 use Rattle.ft_trace.specs.Acts.{has_committed}
 use Rattle.ft_trace.specs.Addresses.{class_of, slots}
 use Rattle.ft_trace.specs.EntryWrites.{value_puts}
-use Rattle.ft_trace.specs.Holds.{held_words, known_state}
+use Rattle.ft_trace.specs.Holds.{held_unboxed, known_state}
 use Rattle.ft_trace.specs.Pictures.{entry_field}
 use Rattle.ft_trace.specs.ContainerStates.{kind_in}
 use Rattle.ft_trace.specs.WholeWrites.{MayPuts}
@@ -33,7 +33,7 @@ laws_here c =
       follow = c.words_follow_a_dict.ensures.changed;
     }
 
-change : (w : After-words_follow_a_dict) → (c : After-start_write) → FitsStored (Plain c.args.value) → Changing (shape_of c.args.bank.now).texts (table_id c.args.at.0) (held_words 0 (view c.args.writer.now)) (known_state 0 (view c.args.writer.now)) c.args.at.1 (value_puts (slots (class_of (table_id c.args.at.0))) (held_words 0 (view c.args.writer.now)).table c.args.at.1 c.args.value)
+change : (w : After-words_follow_a_dict) → (c : After-start_write) → FitsStored (Plain c.args.value) → Changing (shape_of c.args.bank.now).texts (table_id c.args.at.0) (held_unboxed 0 (view c.args.writer.now)) (known_state 0 (view c.args.writer.now)) c.args.at.1 (value_puts (slots (class_of (table_id c.args.at.0))) (held_unboxed 0 (view c.args.writer.now)).table c.args.at.1 None c.args.value)
     (record { content = with_value_at (known_state 0 (view c.args.writer.now)).content c.args.key c.args.value; table = (known_state 0 (view c.args.writer.now)).table })
 change w c fits =
     let a = c.args in
@@ -57,12 +57,12 @@ put_value-requires-clause-early c =
 pub put_value-requires-clause-old_kind : goal.put_value-requires-clause-old_kind
 put_value-requires-clause-old_kind c =
     let a = c.args in
-    c.requires.old_kind ∙ sym (ap (λ (z : View). entry_field (slots (class_of (table_id a.at.0))) (held_words 0 z).table a.at.1 4) c.start_write.ensures.1)
+    c.requires.old_kind ∙ sym (ap (λ (z : View). entry_field (slots (class_of (table_id a.at.0))) (held_unboxed 0 z).table a.at.1 4) c.start_write.ensures.1)
 
 pub put_value-requires-clause-old_payload : goal.put_value-requires-clause-old_payload
 put_value-requires-clause-old_payload c =
     let a = c.args in
-    c.requires.old_payload ∙ sym (ap (λ (z : View). entry_field (slots (class_of (table_id a.at.0))) (held_words 0 z).table a.at.1 5) c.start_write.ensures.1)
+    c.requires.old_payload ∙ sym (ap (λ (z : View). entry_field (slots (class_of (table_id a.at.0))) (held_unboxed 0 z).table a.at.1 5) c.start_write.ensures.1)
 
 pub put_value-requires-clause-may : goal.put_value-requires-clause-may
 put_value-requires-clause-may c =
@@ -72,5 +72,5 @@ put_value-requires-clause-may c =
     let kind_eq = kind_is k v 0 c.requires.pass.1 a.writer.now.possible c.requires.may.locked in
     let w = (goal.at.put_value-requires-clause-may c).After-words_follow_a_dict in
     let puts = (change w (goal.at.put_value-requires-clause-may c).After-start_write w.value_fits.ensures).puts in
-    subst (λ (z : View). MayPuts (kind_in k.starts 0) (table_id a.at.0) (known_state 0 z).content false (held_words 0 z) (value_puts (slots (class_of (table_id a.at.0))) (held_words 0 z).table a.at.1 a.value)) (sym c.start_write.ensures.1)
-    (subst (λ (z : Kind). MayPuts z (table_id a.at.0) (known_state 0 v).content false (held_words 0 v) (value_puts (slots (class_of (table_id a.at.0))) (held_words 0 v).table a.at.1 a.value)) kind_eq puts)
+    subst (λ (z : View). MayPuts (kind_in k.starts 0) (table_id a.at.0) (known_state 0 z).content false (held_unboxed 0 z) (value_puts (slots (class_of (table_id a.at.0))) (held_unboxed 0 z).table a.at.1 None a.value)) (sym c.start_write.ensures.1)
+    (subst (λ (z : Kind). MayPuts z (table_id a.at.0) (known_state 0 v).content false (held_unboxed 0 v) (value_puts (slots (class_of (table_id a.at.0))) (held_unboxed 0 v).table a.at.1 None a.value)) kind_eq puts)

@@ -1,7 +1,9 @@
-use Rattle.std.proofs.Common.{refl}
+use Rattle.std.proofs.Common.{◌<◌, refl}
+use Rattle.std.specs.Prelude.{length}
 use Rattle.ft_model.specs.declared.call.Call.TheVariants as call
 use Rattle.ft_model.specs.declared.call.DictCall.TheVariants as dict
 use Rattle.ft_bank.specs.Passes.{shape_of, view}
+use Rattle.ft_whole_tables.specs.ShownContents.{IsOfDict}
 use Rattle.ft_engine.proofs.ContainerCalls.{copy_looked}
 use Rattle.ft_engine.proofs.KeyedCalls.{dict_looked, key_looked}
 use Rattle.ft_engine.proofs.ListLooks.{both_looked, glance_looked}
@@ -25,7 +27,7 @@ returns-in-Len-clause-looked c =
 
 pub returns-in-Items-clause-looked : goal.returns-in-Items-clause-looked
 returns-in-Items-clause-looked c =
-    dict_looked c.args.d c.args.call.now dict.Items (view c.args.pass.now) (view c.look_items.new.pass) c.look_items.result c.in-Items.is (copy_looked (shape_of c.args.bank.now) c.args.d _ (call.Dict c.args.d dict.Items) (view c.args.pass.now) (view c.look_items.new.pass) c.look_items.result refl (λ a b part s. s) c.look_items.ensures.looked)
+    dict_looked c.args.d c.args.call.now dict.Items (view c.args.pass.now) (view c.look_items.new.pass) c.look_items.result c.in-Items.is (copy_looked (shape_of c.args.bank.now) c.args.d (IsOfDict (shape_of c.args.bank.now) (λ dict. 0 < length dict.pairs)) (call.Dict c.args.d dict.Items) (view c.args.pass.now) (view c.look_items.new.pass) c.look_items.result refl (λ a b part s. s) c.look_items.ensures.looked)
 
 pub returns-in-Eq-clause-looked : goal.returns-in-Eq-clause-looked
 returns-in-Eq-clause-looked c =

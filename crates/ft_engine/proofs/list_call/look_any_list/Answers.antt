@@ -1,4 +1,5 @@
-use Rattle.std.proofs.Common.{ℤ, refl, subst, rules}
+use Rattle.std.proofs.Common.{◌<◌, ℤ, refl, subst, rules}
+use Rattle.std.specs.Prelude.{length}
 use mir.Syntax.{w64}
 use mir.Val.{SFits}
 use Rattle.std.proofs.Math.Facts.{to_z-of_z}
@@ -6,6 +7,7 @@ use Rattle.ft_list.specs.Indexes.{IsLookGetOf}
 use Rattle.ft_model.specs.declared.call.Call.TheVariants as call
 use Rattle.ft_model.specs.declared.call.ListCall.TheVariants as list
 use Rattle.ft_bank.specs.Passes.{shape_of, view}
+use Rattle.ft_list.specs.Scans.{IsOfItems}
 use Rattle.ft_engine.proofs.ContainerCalls.{copy_looked}
 use Rattle.ft_engine.proofs.ListLooks.{both_looked, get_looked, glance_looked, list_looked}
 use Rattle.ft_engine.proofs.list_call.look_any_list.Goals as goal
@@ -26,7 +28,7 @@ returns-in-Len-clause-looked c =
 
 pub returns-in-Items-clause-looked : goal.returns-in-Items-clause-looked
 returns-in-Items-clause-looked c =
-    list_looked c.args.l c.args.call.now list.Items (view c.args.pass.now) (view c.look_items.new.pass) c.look_items.result c.in-Items.is (copy_looked (shape_of c.args.bank.now) c.args.l _ (call.List c.args.l list.Items) (view c.args.pass.now) (view c.look_items.new.pass) c.look_items.result refl (λ a b part s. s) c.look_items.ensures.looked)
+    list_looked c.args.l c.args.call.now list.Items (view c.args.pass.now) (view c.look_items.new.pass) c.look_items.result c.in-Items.is (copy_looked (shape_of c.args.bank.now) c.args.l (IsOfItems (shape_of c.args.bank.now) (λ items. 0 < length items)) (call.List c.args.l list.Items) (view c.args.pass.now) (view c.look_items.new.pass) c.look_items.result refl (λ a b part s. s) c.look_items.ensures.looked)
 
 pub returns-in-Eq-clause-looked : goal.returns-in-Eq-clause-looked
 returns-in-Eq-clause-looked c =

@@ -3,7 +3,6 @@ use mir.Syntax.{w64}
 use mir.Val.{SFits}
 use Rattle.std.proofs.Math.Facts.{to_z-of_z}
 use Rattle.ft_list.specs.Indexes.{IsLookGetOf}
-use Rattle.ft_model.specs.declared.call.Call.TheVariants as call
 use Rattle.ft_model.specs.declared.call.ListCall.TheVariants as list
 use Rattle.ft_bank.specs.Passes.{view}
 use Rattle.ft_engine.proofs.ListLooks.{get_looked, list_looked}

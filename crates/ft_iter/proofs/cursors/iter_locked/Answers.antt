@@ -10,7 +10,7 @@ use Rattle.ft_trace.specs.declared.View.{View}
 use Rattle.ft_trace.specs.Acts.{view_after}
 use Rattle.ft_trace.specs.Addresses.{container_count}
 use Rattle.ft_trace.specs.Hands.{cursor_in}
-use Rattle.ft_trace.specs.Holds.{held_words, known_state}
+use Rattle.ft_trace.specs.Holds.{held_unboxed, known_state}
 use Rattle.ft_trace.specs.ContainerStates.{kind_in}
 use Rattle.ft_bank.specs.Answered.{AnsweredCursor}
 use Rattle.ft_bank.specs.Passes.{shape_of, view, IsPassOf}
@@ -44,7 +44,7 @@ answer_moved-answered-requires-clause-shown c n =
     let loaded = loaded_by (ReadBlock o 1 count) v u tt c.read_block-count.ensures.did.1 in
     let low = subst (λ (z : Shape). o < container_count z) (sym c.requires.pass.1) c.requires.container in
     let kind_is : kind_of (known_state o v).content ≡ k = kind-held v o c.args.pass.now.possible c.requires.locked ∙ (ap (λ (z : Shape). kind_in z.starts o) c.requires.pass.1 ∙ c.requires.kind) in
-    let counts : count ≡ length_of (known_state o v).content = c.read_block-count.ensures.held c.requires.locked ∙ count_is (shape_of c.args.bank.now).texts (held_words o v) (known_state o v) c.requires.stands in
+    let counts : count ≡ length_of (known_state o v).content = c.read_block-count.ensures.held c.requires.locked ∙ count_is (shape_of c.args.bank.now).texts (held_unboxed o v) (known_state o v) c.requires.stands in
     let right = cursor-shown v u o n number (iter_call k o number) reply.Done (iter_cursor k o count) loaded c.requires.left (iter-asks k o number) low c.requires.locked
     (λ world holds. iter-moves world (known_state o v).content k o count number (cursor_in number v.log) (versions c.args.bank.now c.args.pass.now o k c.requires.pass c.requires.kind) holds kind_is counts) in
     subst (λ (x : Call × Cursor). IsCursorShown (view_after (ReadCounter n) u) x.0 reply.Done n number x.1) (sym (λ d. (c.call_of-call.ensures d, c.start_of-cursor.ensures d))) right

@@ -10,7 +10,7 @@ use Rattle.ft_trace.specs.Holds.{known_state}
 use Rattle.ft_bank.specs.Answered.{AnsweredCursor}
 use Rattle.ft_bank.specs.Passes.{view}
 use Rattle.ft_bank.specs.Whole.{OnlyLoaded}
-use Rattle.ft_search.proofs.Rounding.{looks_load}
+use Rattle.ft_search.proofs.Rounding.{looks_did}
 use Rattle.ft_search.proofs.Running.{did_log}
 use Rattle.ft_iter.specs.CursorCalls.{step_in, IsOver}
 use Rattle.ft_iter.proofs.Moves.{next-moves, step-over}
@@ -25,7 +25,7 @@ answer_moved-answered-requires-clause-shown c n =
     let v = view c.args.pass.now in
     let u = view c.step-advanced.new.pass in
     let looks = c.step-advanced.ensures.looks in
-    let loaded : OnlyLoaded v u = subst (OnlyLoaded v) (sym looks.2.1) (looks_load looks.0 v looks.1) in
+    let loaded : OnlyLoaded v u = looks_did looks.0 c.args.pass.now c.step-advanced.new.pass looks.1 looks.2 in
     let low = subst (λ (z : Shape). o < container_count z) (sym c.requires.pass.1) c.requires.container in
     let s = step_in (known_state o v).content walker in
     cursor-shown v u o n number (call.Next number) c.step-advanced.result.reply c.step-advanced.result.cursor loaded c.requires.left refl low c.requires.locked
@@ -40,7 +40,7 @@ returns-clause-answered c =
     let z = view c.answer_moved-answered.new.pass in
     let n = c.answer_moved-answered.result.1.number in
     let looks = c.step-advanced.ensures.looks in
-    let loaded : OnlyLoaded v u = subst (OnlyLoaded v) (sym looks.2.1) (looks_load looks.0 v looks.1) in
+    let loaded : OnlyLoaded v u = looks_did looks.0 c.args.pass.now c.step-advanced.new.pass looks.1 looks.2 in
     subst (λ (said : Reply). AnsweredCursor (call.Next number) said n number c.step-advanced.result.cursor v z) (sym c.answer_moved-answered.ensures.said.0)
     (answered-moved v u z (call.Next number) c.step-advanced.result.reply n number c.step-advanced.result.cursor looks.0 loaded (did_log looks.0 c.args.pass.now c.step-advanced.new.pass looks.2) c.answer_moved-answered.ensures.did.1 c.answer_moved-answered.ensures.seen)
 

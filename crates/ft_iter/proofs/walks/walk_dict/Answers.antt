@@ -5,7 +5,7 @@ use Rattle.ft_model.specs.Worlds.{length_of}
 use Rattle.ft_trace.specs.declared.Act.{Act}
 use Rattle.ft_trace.specs.declared.Act.TheVariants.{ReadBlock}
 use Rattle.ft_trace.specs.declared.View.{View}
-use Rattle.ft_trace.specs.Holds.{held_words, known_state}
+use Rattle.ft_trace.specs.Holds.{held_unboxed, known_state}
 use Rattle.ft_bank.specs.Passes.{shape_of, view}
 use Rattle.ft_search.proofs.Lengths.{count_is}
 use Rattle.ft_search.proofs.Running.{did_trans}
@@ -35,7 +35,7 @@ returns-in-Some-clause-next c d is =
     let v = view c.args.pass.now in
     let count = c.read_block-count.result in
     let pair = c.in-Some.pair in
-    let counts : count ≡ length_of (known_state o v).content = c.read_block-count.ensures.held c.requires.locked ∙ count_is (shape_of c.args.bank.now).texts (held_words o v) (known_state o v) c.requires.stands in
+    let counts : count ≡ length_of (known_state o v).content = c.read_block-count.ensures.held c.requires.locked ∙ count_is (shape_of c.args.bank.now).texts (held_unboxed o v) (known_state o v) c.requires.stands in
     let size = sym (counts ∙ ap length_of is) ∙ c.if-count-size.false in
     let same : (known_state o (view c.read_block-count.new.pass)).content ≡ content.Dict d = ap (λ (z : View). (known_state o z).content) c.read_block-count.ensures.did.1 ∙ is in
     let next = subst (λ (z : Content). IsNextOf z c.args.last (Some pair)) same c.in-Some.ensures.next in

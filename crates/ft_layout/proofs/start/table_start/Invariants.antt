@@ -6,5 +6,5 @@ use Rattle.ft_layout.proofs.start.table_start.Given as goal
 abbrev pub invariant-loop-below : goal.invariant-loop-below
 invariant-loop-below l = record {
   is : l.start ≡ heap_start l.containers l.heap l.passes + words_below l.tables l.below;
-  most : l.start ≤ 800000 + (l.below - 3) * 425019392;
+  most : l.start ≤ 1060000 + (l.below - 3) * 425019392;
 }

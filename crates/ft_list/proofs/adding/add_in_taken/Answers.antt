@@ -4,7 +4,7 @@ use Rattle.ft_model.specs.declared.data.Value.{Value}
 use Rattle.ft_model.specs.declared.reply.Reply.TheVariants as reply
 use Rattle.ft_model.specs.TableUses.{CanLackMemory, takes_in, would_pass}
 use Rattle.ft_trace.specs.Addresses.{class_of}
-use Rattle.ft_trace.specs.Holds.{held_words}
+use Rattle.ft_trace.specs.Holds.{held_unboxed}
 use Rattle.ft_trace.specs.Pictures.{root_in}
 use Rattle.ft_trace.specs.ContainerStates.{changes}
 use Rattle.ft_bank.specs.Passes.{shape_of, view}
@@ -89,8 +89,8 @@ retire_old-requires-clause-out c t is =
     let at = list_changes a.l r.0 a.called.now r.1 r.2.changing in
     let t0 = c.in-Taken.ensures in
     let list = tried_knows _ (view a.pass.now) u t0.same t0.keeps k a.l a.old c.requires.pass.1 c.requires.may.list in
-    let old : root_in (held_words (changes a.called.now) u) ≡ suc (table_id t) = subst (λ (n : ℕ). root_in (held_words n u) ≡ suc (table_id t)) (sym at) (list.root ∙ ap root_for is) in
-    let new : root_in (held_words (changes a.called.now) (view c.add_in-number.new.pass)) ≡ suc (table_id c.in-Taken.table) = subst (λ (n : ℕ). root_in (held_words n (view c.add_in-number.new.pass)) ≡ suc (table_id c.in-Taken.table)) (sym at) e.root in
+    let old : root_in (held_unboxed (changes a.called.now) u) ≡ suc (table_id t) = subst (λ (n : ℕ). root_in (held_unboxed n u) ≡ suc (table_id t)) (sym at) (list.root ∙ ap root_for is) in
+    let new : root_in (held_unboxed (changes a.called.now) (view c.add_in-number.new.pass)) ≡ suc (table_id c.in-Taken.table) = subst (λ (n : ℕ). root_in (held_unboxed n (view c.add_in-number.new.pass)) ≡ suc (table_id c.in-Taken.table)) (sym at) e.root in
     let ne = taken_other k a.old c.in-Taken.table a.class (a.count + count_in a.addition) c.requires.few c.requires.takes x.0 x.1 t is t_in in
     let out = taken_out a.called.now reply.Done c.add_in-number.result (table_id t) (suc (table_id c.in-Taken.table)) u (view c.add_in-number.new.pass) e.wrote old new (λ same. ne (omega (arith, same))) in
     (t_in, out.0, out.1)
@@ -117,7 +117,7 @@ returns-in-Taken-clause-added c =
     let at = list_changes a.l r.0 a.called.now r.1 r.2.changing in
     let x = e.did.6 in
     let list = tried_knows _ (view a.pass.now) u e.same e.keeps k a.l a.old c.requires.pass.1 c.requires.may.list in
-    let other : root_in (held_words a.l u) ≢ suc (table_id c.in-Taken.table) = λ is. taken_root k a.old c.in-Taken.table a.class (a.count + count_in a.addition) c.requires.few c.requires.takes x.0 x.1 c.requires.may.list.table_in (sym list.root ∙ is) in
+    let other : root_in (held_unboxed a.l u) ≢ suc (table_id c.in-Taken.table) = λ is. taken_root k a.old c.in-Taken.table a.class (a.count + count_in a.addition) c.requires.few c.requires.takes x.0 x.1 c.requires.may.list.table_in (sym list.root ∙ is) in
     let w = c.add_in-number.ensures in (
       refl,
       refl,
@@ -125,10 +125,11 @@ returns-in-Taken-clause-added c =
         table = c.in-Taken.table;
         taken = u;
         tried = record { mid = e.did.0; freed = e.did.1; acts = e.did.2; collected = e.did.3; did = e.did.4; taking = e.did.5; has = e.did.6; floor = e.floor; same = e.same; keeps = e.keeps; hands = e.hands };
-        other = subst (λ (n : ℕ). root_in (held_words n u) ≢ suc (table_id c.in-Taken.table)) (sym at) other;
+        other = subst (λ (n : ℕ). root_in (held_unboxed n u) ≢ suc (table_id c.in-Taken.table)) (sym at) other;
         done = done;
         wrote = w.wrote;
-        root = subst (λ (n : ℕ). root_in (held_words n done) ≡ suc (table_id c.in-Taken.table)) (sym at) w.root;
-        retired = subst (λ (n : ℕ). Retires n done (view c.retire_old.new.pass)) (sym list.root ∙ sym (ap (λ (n : ℕ). root_in (held_words n u)) at)) c.retire_old.ensures.retired;
+        root = subst (λ (n : ℕ). root_in (held_unboxed n done) ≡ suc (table_id c.in-Taken.table)) (sym at) w.root;
+        references = w.references;
+        retired = subst (λ (n : ℕ). Retires n done (view c.retire_old.new.pass)) (sym list.root ∙ sym (ap (λ (n : ℕ). root_in (held_unboxed n u)) at)) c.retire_old.ensures.retired;
       },
     )

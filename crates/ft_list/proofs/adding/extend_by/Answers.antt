@@ -13,17 +13,18 @@ use Rattle.ft_list.proofs.ListCallFacts.{extend_adds}
 use Rattle.ft_list.proofs.Extending.{knows_few, knows_from, knows_list}
 use Rattle.ft_list.proofs.GrownLists.{knows_content}
 use Rattle.ft_list.proofs.Lists.{items_loaded, may_loaded}
+use Rattle.ft_search.proofs.Puts.{done_then}
 use Rattle.ft_list.proofs.adding.extend_by.Goals as goal
 
 pub count_of-more-requires-clause-may : goal.count_of-more-requires-clause-may
 count_of-more-requires-clause-may c =
     let a = c.args in
-    may_loaded (shape_of a.bank.now) a.m (view a.pass.now) (view c.count_of-count.new.pass) c.count_of-count.ensures.only c.requires.other
+    may_loaded (shape_of a.bank.now) a.m (view a.pass.now) (view c.count_of-count.new.pass) c.requires.pass.1 c.count_of-count.ensures.only c.requires.other
 
 pub root_table-old-requires-clause-may : goal.root_table-old-requires-clause-may
 root_table-old-requires-clause-may c =
     let a = c.args in
-    may_loaded (shape_of a.bank.now) a.l (view c.count_of-count.new.pass) (view c.count_of-more.new.pass) c.count_of-more.ensures.only c.count_of-count.ensures.may
+    may_loaded (shape_of a.bank.now) a.l (view c.count_of-count.new.pass) (view c.count_of-more.new.pass) c.count_of-count.ensures.pass.1 c.count_of-more.ensures.only c.count_of-count.ensures.may
 
 pub add_to-requires-clause-may : goal.add_to-requires-clause-may
 add_to-requires-clause-may c =
@@ -35,6 +36,7 @@ add_to-requires-clause-may c =
       used = l.work.used ∙ c.requires.used;
       owes = l.work.owes ∙ c.requires.may.owes;
       idle = l.work.pass.flight ∙ c.requires.idle;
+      boxes = done_then (shape_of a.bank.now) (view a.pass.now) (view c.root_table-old.new.pass) c.requires.pass.1 l.work.pass.shape l.boxes.references l.boxes.made c.requires.may.boxes;
       left = subst (λ (n : ℕ). 0 < n) (sym l.work.left) c.requires.may.left;
     }
 
@@ -46,7 +48,7 @@ add_to-requires-clause-addition c =
     let y = view c.count_of-more.new.pass in
     let u = view c.root_table-old.new.pass in
     let e = c.count_of-more.ensures in
-    (e.count ∙ sym (ap length (items_loaded a.m y u c.root_table-old.ensures.only ∙ items_loaded a.m x y e.only)), knows_from k a.m u (may_loaded k a.m y u c.root_table-old.ensures.only e.may))
+    (e.count ∙ sym (ap length (items_loaded a.m y u c.root_table-old.ensures.only ∙ items_loaded a.m x y e.only)), knows_from k a.m u (may_loaded k a.m y u e.pass.1 c.root_table-old.ensures.only e.may))
 
 pub add_to-requires-clause-count : goal.add_to-requires-clause-count
 add_to-requires-clause-count c =
@@ -66,7 +68,7 @@ add_to-requires-clause-call c =
     let e = c.root_table-old.ensures in
     let shape : u.shape ≡ k = e.pass.1 in
     let possible = c.root_table-old.new.pass.possible in
-    let other = knows_from k a.m u (may_loaded k a.m y u e.only c.count_of-more.ensures.may) in
+    let other = knows_from k a.m u (may_loaded k a.m y u c.count_of-more.ensures.pass.1 e.only c.count_of-more.ensures.may) in
     let inside : (p : ℕ) → p < container_count k → p < container_count u.shape = λ p low. subst (λ (z : Shape). p < container_count z) (sym shape) low in (
       list.Extend a.m,
       refl,

@@ -20,7 +20,22 @@ use Rattle.ft_list.specs.ListItemWrites.{known_items}
 use Rattle.ft_list.proofs.ListCallFacts.{insert_adds}
 use Rattle.ft_list.proofs.GrownLists.{knows_content}
 use Rattle.ft_list.proofs.Additions.{adds_items}
+use Rattle.ft_search.proofs.Puts.{done_then}
 use Rattle.ft_list.proofs.adding.insert_by.Goals as goal
+
+pub add_to-requires-clause-may : goal.add_to-requires-clause-may
+add_to-requires-clause-may c =
+    let a = c.args in
+    let l = loaded_then (view a.pass.now) (view c.count_of-count.new.pass) (view c.root_table-old.new.pass) c.count_of-count.ensures.only c.root_table-old.ensures.only in
+    record {
+      list = c.root_table-old.ensures.list;
+      even = λ p. l.work.pass.writes p ∙ c.requires.may.even p;
+      used = l.work.used ∙ c.requires.used;
+      owes = l.work.owes ∙ c.requires.may.owes;
+      idle = l.work.pass.flight ∙ c.requires.idle;
+      boxes = done_then (shape_of a.bank.now) (view a.pass.now) (view c.root_table-old.new.pass) c.requires.pass.1 l.work.pass.shape l.boxes.references l.boxes.made c.requires.may.boxes;
+      left = subst (λ (n : ℕ). 0 < n) (sym l.work.left) c.requires.may.left;
+    }
 
 pub add_to-requires-clause-call : goal.add_to-requires-clause-call
 add_to-requires-clause-call c =

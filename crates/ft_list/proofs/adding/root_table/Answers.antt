@@ -11,7 +11,7 @@ returns-clause-list c =
     let v = view a.pass.now in
     let w = view c.table_at_root.new.pass in
     let e = c.table_at_root.ensures in
-    let may = may_loaded (shape_of a.bank.now) a.l v w e.only c.requires.may in
+    let may = may_loaded (shape_of a.bank.now) a.l v w c.requires.pass.1 e.only c.requires.may in
     record {
       container = may.container;
       kind = may.kind;

@@ -34,3 +34,6 @@ pub returns-clause-fits : goal.returns-clause-fits
 returns-clause-fits c =
     subst FitsStored (sym (returns-clause-stored c))
     (c.requires.gives.1.stores (table_id c.in-Some.table) c.args.place (c.requires.root ∙ ap root_for c.in-Some.is) c.requires.place).1.fits
+
+pub read_stored-requires-clause-list : goal.read_stored-requires-clause-list
+read_stored-requires-clause-list c = c.requires.gives.1.kind

@@ -1,12 +1,12 @@
 use Rattle.std.proofs.Common.{◌≡◌, ◌+◌, ◌++◌, false}
 use Rattle.ft_trace.specs.Acts.{has_committed}
 use Rattle.ft_trace.specs.Addresses.{class_of}
-use Rattle.ft_trace.specs.Holds.{held_words}
+use Rattle.ft_trace.specs.Holds.{held_unboxed}
 use Rattle.ft_trace.specs.Pictures.{root_in}
 use Rattle.ft_bank.specs.Passes.{shape_of, view, IsPassOf}
 use Rattle.ft_bank.specs.PassSections.{stack_of}
 use Rattle.ft_bank.specs.TableNames.{table_id, root_for}
-use Rattle.ft_bank.specs.Whole.{OnlyPut}
+use Rattle.ft_bank.specs.Whole.{OnlyWritten}
 use Rattle.ft_list.specs.ListItemWrites.{WritesList, known_items}
 use Rattle.ft_list.specs.Internal.Moving.{IsMoving}
 use Rattle.ft_list.specs.Internal.Additions.{GivesItems}
@@ -19,9 +19,9 @@ invariant-loop-place l =
       stack : stack_of l.pass ≡ stack_of l.initial.pass;
       list : WritesList (shape_of l.bank) l.o l.table (view l.pass);
       early : has_committed l.o (view l.pass).log ≡ false;
-      only : OnlyPut l.o (view l.initial.pass) (view l.pass);
-      block : (held_words l.o (view l.pass)).block ≡ (held_words l.o (view l.initial.pass)).block;
+      only : OnlyWritten l.o (view l.initial.pass) (view l.pass);
+      block : (held_unboxed l.o (view l.pass)).block ≡ (held_unboxed l.o (view l.initial.pass)).block;
       gives : GivesItems (shape_of l.bank) l.o l.m (view l.pass);
-      root : root_in (held_words l.m (view l.pass)) ≡ root_for l.from;
-      moving : IsMoving (class_of (table_id l.table)) (known_items l.o (view l.initial.pass)) (known_items l.o (view l.initial.pass) ++ known_items l.m (view l.initial.pass)) l.count (l.count + l.more) (l.count + l.place) (held_words l.o (view l.pass)).table;
+      root : root_in (held_unboxed l.m (view l.pass)) ≡ root_for l.from;
+      moving : IsMoving (class_of (table_id l.table)) (known_items l.o (view l.initial.pass)) (known_items l.o (view l.initial.pass) ++ known_items l.m (view l.initial.pass)) l.count (l.count + l.more) (l.count + l.place) (held_unboxed l.o (view l.pass)).table;
     }

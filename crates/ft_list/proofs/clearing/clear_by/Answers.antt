@@ -1,11 +1,12 @@
 use Rattle.std.proofs.Common.{ℕ, ◌<◌, refl, sym, ap, ◌∙◌, subst, arith}
 use Rattle.ft_model.specs.declared.reply.Reply.TheVariants as reply
-use Rattle.ft_bank.specs.Passes.{view}
+use Rattle.ft_bank.specs.Passes.{view, shape_of}
 use Rattle.ft_bank.specs.TableNames.{table_id, root_for}
 use Rattle.ft_table_calls.specs.Adding.{Retires}
 use Rattle.ft_table_calls.proofs.Cursors.{given_cursors}
 use Rattle.ft_table_calls.proofs.Rooting.{taken_out}
 use Rattle.ft_list.proofs.Emptying.{clear_of}
+use Rattle.ft_search.proofs.Puts.{done_then}
 use Rattle.ft_list.proofs.clearing.clear_by.Goals as goal
 
 pub clear_list-number-requires-clause-may : goal.clear_list-number-requires-clause-may
@@ -17,6 +18,7 @@ clear_list-number-requires-clause-may c =
       used = w.used ∙ c.requires.used;
       owes = w.owes ∙ c.requires.may.owes;
       idle = w.pass.flight ∙ c.requires.idle;
+      boxes = done_then (shape_of c.args.bank.now) (view c.args.pass.now) (view c.root_table-old.new.pass) c.requires.pass.1 w.pass.shape c.root_table-old.ensures.only.boxes.references c.root_table-old.ensures.only.boxes.made c.requires.may.boxes;
       left = subst (λ (n : ℕ). 0 < n) (sym w.left) c.requires.may.left;
     }
 
@@ -40,6 +42,7 @@ returns-clause-cleared c =
           done = view c.clear_list-number.new.pass;
           wrote = e.wrote;
           root = e.root;
+          references = e.references;
           retired = subst (λ (n : ℕ). Retires n (view c.clear_list-number.new.pass) (view c.retire_old.new.pass)) (sym list.root) c.retire_old.ensures.retired;
         },
       ),

@@ -1,20 +1,18 @@
-use Rattle.std.proofs.Common.{◌≡◌, ℕ, ◌+◌, ◌<◌, ◌≤◌, true, List, length, Some, sym, ap, ◌∙◌, subst, arith}
+use Rattle.std.proofs.Common.{◌≡◌, ℕ, ◌+◌, ◌<◌, ◌≤◌, List, length, Some, sym, ap, ◌∙◌, subst, arith, suc}
 use Rattle.ft_model.specs.declared.data.Value.{Value}
 use Rattle.ft_model.specs.Worlds.{list_of}
 use Rattle.ft_layout.specs.Containers.{IsBlock}
-use Rattle.ft_trace.specs.declared.Act.TheVariants.{PutBlock, StartWrite}
+use Rattle.ft_trace.specs.declared.Act.TheVariants.{PutBlock}
 use Rattle.ft_trace.specs.declared.Shape.{Shape}
 use Rattle.ft_trace.specs.declared.View.{View}
-use Rattle.ft_trace.specs.Acts.{has_lock, is_writing, view_after}
 use Rattle.ft_trace.specs.Addresses.{class_of, container_count, slots}
-use Rattle.ft_trace.specs.Holds.{held_words, in_hand, known_state}
+use Rattle.ft_trace.specs.Holds.{held_unboxed, in_hand, known_state, held_words}
 use Rattle.ft_trace.specs.Pictures.{root_in}
 use Rattle.ft_trace.specs.ContainerStates.{ContainerState}
-use Rattle.ft_trace.proofs.Cases.{miss}
 use Rattle.ft_bank.specs.Passes.{shape_of, view}
 use Rattle.ft_bank.specs.TableNames.{table_id}
-use Rattle.ft_bank.specs.Whole.{OnlyPut}
-use Rattle.ft_bank.proofs.KnownAfterWrites.{put_by, put_then, work_knows}
+use Rattle.ft_bank.specs.Whole.{OnlyWritten}
+use Rattle.ft_bank.proofs.KnownAfterWrites.{put_by, written_then, work_knows, put_written}
 use Rattle.ft_list.specs.ListWrites.{Grows}
 use Rattle.ft_list.specs.ListItemWrites.{IsPutting, known_items, stored_item}
 use Rattle.ft_list.specs.Internal.Moving.{IsMoving}
@@ -26,6 +24,8 @@ use Rattle.ft_list.proofs.FinishedWrites.{root_stays}
 use Rattle.ft_list.proofs.GrownLists.{grow_filled}
 use Rattle.ft_list.proofs.GrowWrites.{grow_finishing, grow_wrote, list_changes}
 use Rattle.ft_list.proofs.WholeListWrites.{grows_on}
+use Rattle.ft_list.proofs.Rooted.{rooted_known, rooted_other}
+use Rattle.ft_search.proofs.Puts.{done_then, same_done}
 use Rattle.ft_list.proofs.growth.add_in.Goals as goal
 
 pub begin_in-requires-clause-may : goal.begin_in-requires-clause-may
@@ -58,32 +58,32 @@ put_added-requires-clause-addition c =
     let s = view c.begin_in.new.pass in
     let g = c.fill.ensures.only in
     let b = c.begin_in.ensures in
-    let begun = b.did.1.1 in
+    let h = b.rooted in
+    let known_now : (p : ℕ) → known_state p s ≡ known_state p x = rooted_known a.o (suc (table_id a.table)) x s h in
     let inside : (p : ℕ) → p < container_count k → p < container_count x.shape = λ p low. subst (λ (z : Shape). p < container_count z) (sym (g.work.pass.shape ∙ c.requires.pass.1)) low in
     let filled = addition_on k a.count a.addition v x
-    (λ p list. let y = g.keeps p (subst (λ (z : Shape). p < container_count z) (sym c.requires.pass.1) list.container) list.locked list.even in (y.0, y.1, g.work.pass.locks p, g.work.pass.writes p)) c.requires.addition in
+    (λ p list. let y = g.keeps p (subst (λ (z : Shape). p < container_count z) (sym c.requires.pass.1) list.container) list.locked list.even in (y.2, y.1, g.work.pass.locks p, g.work.pass.writes p)) c.requires.addition in
     let n : length (known_items a.o x) ≡ length (known_items a.o v) = ap (λ (u : ContainerState). length (list_of u.content)) (work_knows v x a.o g.work) in
     let r = c.requires.room in
     let m = c.requires.count in
-    addition_begun k a.o a.table x s b.list a.count a.count (b.putting a.count a.count) (omega (arith, n, r, m)) (λ p. ap (λ (z : View). known_state p z) begun) b.pass.1 c.begin_in.new.pass.possible
-    (λ p ne list.
-    let quiet : is_writing p (view_after (StartWrite a.o b.did.0) x).log ≡ is_writing p x.log = miss a.o p true (is_writing p x.log) (λ e. ne (sym e)) in
-    ((b.did.2 p (inside p list.container) list.locked (quiet ∙ list.even)).0, ap (λ (z : View). has_lock p z.log) begun, ap (λ (z : View). is_writing p z.log) begun ∙ quiet))
+    addition_begun k a.o a.table x s b.list a.count a.count (b.putting a.count a.count) (omega (arith, n, r, m)) known_now b.pass.1 c.begin_in.new.pass.possible
+    (λ p ne list. rooted_other a.o (suc (table_id a.table)) x s h p ne (inside p list.container) list.locked list.even)
     a.count a.addition filled
 
 pub put_added-requires-clause-count : goal.put_added-requires-clause-count
 put_added-requires-clause-count c =
     let a = c.args in
     c.requires.count
-    ∙ sym (ap (λ (z : View). length (known_items a.o z)) c.begin_in.ensures.did.1.1 ∙ ap (λ (u : ContainerState). length (list_of u.content)) (work_knows (view a.pass.now) (view c.fill.new.pass) a.o c.fill.ensures.only.work))
+    ∙ sym (ap (λ (u : ContainerState). length (list_of u.content))
+    (rooted_known a.o (suc (table_id a.table)) (view c.fill.new.pass) (view c.begin_in.new.pass) c.begin_in.ensures.rooted a.o ∙ work_knows (view a.pass.now) (view c.fill.new.pass) a.o c.fill.ensures.only.work))
 
 pub put_added-requires-clause-before : goal.put_added-requires-clause-before
 put_added-requires-clause-before c =
     let a = c.args in
-    let items : known_items a.o (view c.begin_in.new.pass) ≡ known_items a.o (view c.fill.new.pass) = ap (λ (z : View). known_items a.o z) c.begin_in.ensures.did.1.1 in
+    let items : known_items a.o (view c.begin_in.new.pass) ≡ known_items a.o (view c.fill.new.pass) = ap (λ (z : ContainerState). list_of z.content) (rooted_known a.o (suc (table_id a.table)) (view c.fill.new.pass) (view c.begin_in.new.pass) c.begin_in.ensures.rooted a.o) in
     let first = first_in a.addition a.count in
     let past = a.count + count_in a.addition in
-    subst (λ (l : List Value). IsPutting (class_of (table_id a.table)) l first past (stored_item l) (held_words a.o (view c.begin_in.new.pass)).table) (sym items) (c.begin_in.ensures.putting first past)
+    subst (λ (l : List Value). IsPutting (class_of (table_id a.table)) l first past (stored_item l) (held_unboxed a.o (view c.begin_in.new.pass)).table) (sym items) (c.begin_in.ensures.putting first past)
 
 pub overflow_add-past : goal.overflow_add-past
 overflow_add-past c =
@@ -112,30 +112,31 @@ finish-requires-clause-may c =
     let counted : count_in a.addition ≡ c.added_count.result = sym c.added_count.ensures in
     let total = a.count + c.added_count.result in
     let first = c.first_place.result in
-    let begun = b.did.1.1 in
+    let h = b.rooted in
+    let known_now : (p : ℕ) → known_state p s ≡ known_state p x = rooted_known a.o (suc (table_id a.table)) x s h in
     let knows_x : (p : ℕ) → known_state p x ≡ known_state p v = λ p. work_knows v x p g.work in
     let same : values ≡ olds = ap (λ (z : ContainerState). list_of z.content) (knows_x a.o) in
     let news_is : news ≡ with_added a.addition v olds = ap (λ (l : List Value). with_added a.addition x l) same ∙ added_on a.addition v x knows_x olds in
-    let items : known_items a.o s ≡ values = ap (λ (z : View). known_items a.o z) begun in
-    let after : with_added a.addition s (known_items a.o s) ≡ news = ap (λ (l : List Value). with_added a.addition s l) items ∙ added_on a.addition x s (λ p. ap (λ (z : View). known_state p z) begun) values in
-    let moved : IsMoving class values news first total total (held_words a.o y).table =
-    subst (λ (z : List Value × List Value × ℕ × ℕ). IsMoving class z.0 z.1 z.2 (a.count + z.3) (a.count + z.3) (held_words a.o y).table) (λ d. (items d, after d, sym c.first_place.ensures d, counted d)) e.moved in
+    let items : known_items a.o s ≡ values = ap (λ (z : ContainerState). list_of z.content) (known_now a.o) in
+    let after : with_added a.addition s (known_items a.o s) ≡ news = ap (λ (l : List Value). with_added a.addition s l) items ∙ added_on a.addition x s known_now values in
+    let moved : IsMoving class values news first total total (held_unboxed a.o y).table =
+    subst (λ (z : List Value × List Value × ℕ × ℕ). IsMoving class z.0 z.1 z.2 (a.count + z.3) (a.count + z.3) (held_unboxed a.o y).table) (λ d. (items d, after d, sym c.first_place.ensures d, counted d)) e.moved in
     let long : length news ≡ total = ap length news_is ∙ (added_long k a.count a.addition v olds c.requires.addition c.requires.count ∙ ap (λ (n : ℕ). a.count + n) counted) in
     let n : a.count ≡ length values = c.requires.count ∙ ap length (sym same) in
     let short : length values ≤ total = omega (arith, n) in
     let room : total ≤ slots class = subst (λ (n : ℕ). a.count + n ≤ slots class) counted c.requires.room in
-    let held_is = c.put_block.ensures.held in
-    let last = put_by (PutBlock a.o 1 total) y u a.o tt c.put_block.ensures.did.1 c.put_block.ensures.keeps in
-    let only : OnlyPut a.o s u = put_then s y u a.o e.only last in
-    let changing = added_changing class is_class values news first total (held_words a.o y) (held_words a.o u) moved held_is short long room in
-    let head = added_head class is_class values news first total (held_words a.o y) (held_words a.o u) moved held_is short long room (subst (λ (l : List ℕ). IsBlock l (Some class) (length values) 0 0) (sym e.block) b.head) in
-    let list = writes_on k a.o a.table y u last (root_stays _ _ _ _ (omega arith) held_is) e.list in
+    let held_is = c.put_block.ensures.unboxed in
+    let last = put_by (PutBlock a.o 1 total) y u a.o tt c.put_block.ensures.did.1 c.put_block.ensures.keeps c.put_block.ensures.moves in
+    let only : OnlyWritten a.o h.rooted u = written_then a.o h.rooted s u h.only (written_then a.o s y u e.only (put_written a.o y u last)) in
+    let changing = added_changing class is_class values news first total (held_unboxed a.o y) (held_unboxed a.o u) moved held_is short long room in
+    let head = added_head class is_class values news first total (held_unboxed a.o y) (held_unboxed a.o u) moved held_is short long room (subst (λ (l : List ℕ). IsBlock l (Some class) (length values) 0 0) (sym e.block) b.head) in
+    let list = writes_on k a.o a.table y u e.pass.1 last.work c.put_block.ensures.boxes.references last.made (root_stays _ _ _ _ (omega arith) held_is) e.list in
     let call_is = c.requires.call in
     let may = grow_filled k a.o a.old a.table v x c.requires.pass.1 g c.requires.may in
     let grows : Grows a.o call_is.0 values news class x =
     subst (λ (z : List Value × List Value). Grows a.o call_is.0 z.0 z.1 class x) (λ d. (sym same d, sym news_is d))
     (grows_on v x knows_x g.work.pass.shape (λ p mine. g.work.pass.locks p ∙ mine) a.o call_is.0 olds (with_added a.addition v olds) class call_is.2) in
-    grow_finishing k a.o a.old a.table x s u b.did.0 may begun only first total call_is.0 a.called.now values news call_is.1 grows b.content list (ap (λ (z : View). z.shape) c.put_block.ensures.did.1 ∙ e.pass.1) changing head
+    grow_finishing k a.o a.old a.table x h.rooted u h.start may h.did only first total call_is.0 a.called.now values news call_is.1 grows b.content list (ap (λ (z : View). z.shape) c.put_block.ensures.did.1 ∙ e.pass.1) changing head
 
 pub returns-clause-wrote : goal.returns-clause-wrote
 returns-clause-wrote c =
@@ -147,19 +148,38 @@ returns-clause-wrote c =
     let y = view c.put_added.new.pass in
     let u = view c.put_block.new.pass in
     let g = c.fill.ensures.only in
-    let d = c.begin_in.ensures.did in
+    let h = c.begin_in.ensures.rooted in
     let e = c.put_added.ensures in
-    let last = put_by (PutBlock a.o 1 (a.count + c.added_count.result)) y u a.o tt c.put_block.ensures.did.1 c.put_block.ensures.keeps in
+    let last = put_by (PutBlock a.o 1 (a.count + c.added_count.result)) y u a.o tt c.put_block.ensures.did.1 c.put_block.ensures.keeps c.put_block.ensures.moves in
     let call_is = c.requires.call in
     let may = grow_filled k a.o a.old a.table v x c.requires.pass.1 g c.requires.may in
-    let same : root_in (held_words a.o x) ≡ root_in (held_words a.o v) = ap root_in (g.keeps a.o (subst (λ (z : Shape). a.o < container_count z) (sym c.requires.pass.1) c.requires.may.list.container) c.requires.may.list.locked c.requires.may.list.even).0 in
-    grow_wrote k a.o a.old a.table x s u d.0 may d.1.1 (put_then s y u a.o e.only last) call_is.0 a.called.now c.finish.result v (view c.finish.new.pass) call_is.1 call_is.2.write.changing g same
-    (λ is. c.requires.other (sym same ∙ is)) d.2 (root_stays _ _ _ _ (omega arith) c.put_block.ensures.held ∙ e.list.root) c.finish.ensures.ends
+    let same : held_words a.o x ≡ held_words a.o v = (g.keeps a.o (subst (λ (z : Shape). a.o < container_count z) (sym c.requires.pass.1) c.requires.may.list.container) c.requires.may.list.locked c.requires.may.list.even).0 in
+    grow_wrote k a.o a.old a.table x h.rooted u h.start may h.did (written_then a.o h.rooted s u h.only (written_then a.o s y u e.only (put_written a.o y u last))) call_is.0 a.called.now c.finish.result v (view c.finish.new.pass) call_is.1 call_is.2.write.changing g same
+    (λ is. c.requires.other (sym (ap root_in same) ∙ is)) h.keeps h.moves (root_stays _ _ _ _ (omega arith) c.put_block.ensures.unboxed ∙ e.list.root) c.finish.ensures.ends
 
 pub returns-clause-root : goal.returns-clause-root
 returns-clause-root c =
     let a = c.args in
     let call_is = c.requires.call in
     let at = list_changes a.o call_is.0 a.called.now call_is.1 call_is.2.write.changing in
-    subst (λ (n : ℕ). root_in (held_words n (view c.finish.new.pass)) ≡ root_in (held_words n (view c.put_block.new.pass))) at c.finish.ensures.ends.root
-    ∙ (root_stays _ _ _ _ (omega arith) c.put_block.ensures.held ∙ c.put_added.ensures.list.root)
+    subst (λ (n : ℕ). root_in (held_unboxed n (view c.finish.new.pass)) ≡ root_in (held_unboxed n (view c.put_block.new.pass))) at c.finish.ensures.ends.root
+    ∙ (root_stays _ _ _ _ (omega arith) c.put_block.ensures.unboxed ∙ c.put_added.ensures.list.root)
+
+pub begin_in-requires-clause-other : goal.begin_in-requires-clause-other
+begin_in-requires-clause-other c is =
+    let a = c.args in
+    let l = c.requires.may.list in
+    let same = (c.fill.ensures.only.keeps a.o (subst (λ (z : Shape). a.o < container_count z) (sym c.requires.pass.1) l.container) l.locked l.even).0 in
+    c.requires.other (sym (ap root_in same) ∙ is)
+
+pub returns-clause-references : goal.returns-clause-references
+returns-clause-references c =
+    let a = c.args in
+    let k = shape_of a.bank.now in
+    let v = view a.pass.now in
+    let y = view c.put_added.new.pass in
+    let u = view c.put_block.new.pass in
+    let b = c.put_block.ensures in
+    let done = done_then k y u c.put_added.ensures.pass.1 (ap (λ (z : View). z.shape) b.did.1) b.boxes.references b.boxes.made c.put_added.ensures.list.boxes in
+    let same = same_done k v u c.requires.pass.1 (ap (λ (z : View). z.shape) b.did.1 ∙ c.put_added.ensures.pass.1) c.requires.may.boxes done in
+    λ n. c.finish.ensures.references n ∙ same n

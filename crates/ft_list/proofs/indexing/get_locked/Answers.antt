@@ -33,7 +33,7 @@ answer_held-requires-clause-shown c n =
     let same = c.requires.pass.1 in
     let z = to_z w64 (of_z w64 a.index) in
     let low = subst (λ (x : Shape). o < container_count x) (sym same) c.requires.container in
-    let held = reads_held k o z found p q r c.requires.container (ap (λ (x : Shape). kind_in x.starts o) same ∙ c.requires.list) p.possible c.requires.locked c.requires.stands in
+    let held = reads_held k o z found p q r same c.requires.container (ap (λ (x : Shape). kind_in x.starts o) same ∙ c.requires.list) c.requires.locked c.requires.stands in
     let shown : IsShown (view_after (ReadCounter n) (view q)) (call.List o (list.Get z)) (item_reply found) n = get_held (view p) (view q) o z found n (reads_loaded k o (IsItemNamed k z found) p q r) c.requires.left low c.requires.locked held in
     subst (λ (x : Reply). IsShown (view_after (ReadCounter n) (view q)) (call.List o (list.Get z)) x n) (sym c.reply_of.ensures) shown
 

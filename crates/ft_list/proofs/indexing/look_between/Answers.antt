@@ -17,7 +17,7 @@ use Rattle.ft_bank.specs.Whole.{OnlyLoaded}
 use Rattle.ft_bank.proofs.LastLoads.{between_last}
 use Rattle.ft_search.specs.Lengths.{IsGlanceOf}
 use Rattle.ft_search.proofs.Asking.{may_ask, answered_after}
-use Rattle.ft_search.proofs.Rounding.{looks_load}
+use Rattle.ft_search.proofs.Rounding.{looks_did}
 use Rattle.ft_search.proofs.Running.{did_log}
 use Rattle.ft_list.specs.Indexes.{ShowsNamed}
 use Rattle.ft_list.proofs.Indexes.{get_shown}
@@ -35,7 +35,7 @@ answer_look-requires-clause-shown c =
     let m = c.in-Found.ensures.looked in
     let same = c.read_between.ensures.pass.1 in
     let z = to_z w64 (of_z w64 a.index) in
-    let loaded : OnlyLoaded v w = subst (OnlyLoaded v) (sym m.2.1) (looks_load m.0 v m.1) in
+    let loaded : OnlyLoaded v w = looks_did m.0 c.args.pass.now c.read_between.new.pass m.1 m.2 in
     let own = did_log m.0 a.pass.now c.read_between.new.pass m.2 in
     let shown : IsShown w (call.List o (list.Get z)) (item_reply found) n = get_shown v w o z found n m.0
     (may_ask v w k o n m.0 loaded m.1 own (between_last o n m.0 m.3.last) same c.requires.container c.requires.left)
@@ -53,7 +53,7 @@ returns-in-Found-clause-looked c =
     let m = c.in-Found.ensures.looked in
     let z = to_z w64 (of_z w64 a.index) in
     let index : z ≡ a.index = to_z-of_z {w = w64} {z = a.index} c.ranges.index in
-    let loaded : OnlyLoaded v w = subst (OnlyLoaded v) (sym m.2.1) (looks_load m.0 v m.1) in
+    let loaded : OnlyLoaded v w = looks_did m.0 c.args.pass.now c.read_between.new.pass m.1 m.2 in
     let own = did_log m.0 a.pass.now c.read_between.new.pass m.2 in
     let did = subst (λ (i : ℤ). x ≡ view_after (Answer (call.List o (list.Get i)) c.reply_of.result n) w) index c.answer_look.ensures.did.1 in
     let answered = answered_after (IsLastBetween o n) v w x (call.List o (list.Get a.index)) c.reply_of.result n m.0 loaded own (between_last o n m.0 m.3.last) did a.pass.now.settled c.answer_look.new.pass.possible m.3.last in
@@ -65,7 +65,7 @@ returns-in-Contended-clause-looked c =
     let v = view c.args.pass.now in
     let m = c.in-Contended.ensures.looked in
     record {
-      loaded = subst (OnlyLoaded v) (sym m.2.1) (looks_load m.0 v m.1);
+      loaded = looks_did m.0 c.args.pass.now c.read_between.new.pass m.1 m.2;
       part = m.0;
       looks = m.1;
       own = did_log m.0 c.args.pass.now c.read_between.new.pass m.2;

@@ -2,11 +2,10 @@ use Rattle.std.proofs.Common.{◌≡◌, ◌≢◌, ◌⊎◌, ◌%◌, ℤ, inl
 use mir.Syntax.{w64}
 use mir.Val.{to_z, of_z}
 use Rattle.std.proofs.Math.Facts.{to_z-of_z}
-use Rattle.ft_trace.specs.LoggedReads.{Agrees}
-use Rattle.ft_trace.specs.Pictures.{ContainerWords}
 use Rattle.ft_bank.specs.Passes.{shape_of}
 use Rattle.ft_list.specs.Indexes.{IsItemNamed}
 use Rattle.ft_list.proofs.Indexes.{between_acts, between_did, between_looks, between_stops, between_shows}
+use Rattle.ft_reads.specs.Reads.{ShowsRead}
 use Rattle.ft_list.proofs.indexing.read_between.Goals as goal
 use Rattle.ft_list.proofs.indexing.read_between.Goals.{then-closed-opened-via-then-closed-opened, then-closed-opened-via-else-closed-opened+then-opened-ne0}
 
@@ -30,7 +29,7 @@ returns-clause-looked c =
     let k = shape_of c.args.bank.now in
     let found = c.read_named-found.result in
     let index : to_z w64 (of_z w64 c.args.index) ≡ c.args.index = to_z-of_z {w = w64} {z = c.args.index} c.ranges.index in
-    let shows = subst (λ (i : ℤ). (x : ContainerWords) → Agrees k o r.0 x → IsItemNamed k i found x) index r.3 in (
+    let shows = subst (λ (i : ℤ). ShowsRead k o r.0 (IsItemNamed k i found)) index r.3 in (
       between_acts o c.seq-closed.result c.stamp-number.result r.0 c.seq-opened.result,
       between_looks o c.seq-closed.result c.stamp-number.result r.0 c.seq-opened.result r.1,
       between_did o c.seq-closed.result c.stamp-number.result r.0 c.seq-opened.result c.args.pass.now c.seq-opened.new.pass c.read_named-found.new.pass c.stamp-number.new.pass c.seq-closed.new.pass c.seq-opened.ensures r.2 c.stamp-number.ensures.did c.seq-closed.ensures,

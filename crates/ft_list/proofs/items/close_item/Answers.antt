@@ -1,18 +1,22 @@
-use Rattle.std.proofs.Common.{◌≡◌, ℕ, ◌+◌, ◌<◌, List, sym, ap, ◌∙◌, subst, arith}
+use Rattle.std.proofs.Common.{◌≡◌, ℕ, ◌+◌, ◌%◌, ◌<◌, List, sym, ap, ◌∙◌, subst, arith}
+use Rattle.std.specs.Prelude.{slice_set}
 use Rattle.ft_model.specs.declared.data.Value.{Value}
 use Rattle.ft_model.specs.Worlds.{list_of}
 use Rattle.ft_trace.specs.declared.Act.TheVariants.{PutTable}
 use Rattle.ft_trace.specs.Addresses.{class_of, size}
-use Rattle.ft_trace.specs.ContainerStates.{ContainerState}
-use Rattle.ft_trace.specs.Pictures.{ContainerWords, item_field}
+use Rattle.ft_trace.specs.ContainerStates.{ContainerState, kind_in}
+use Rattle.ft_trace.specs.Holds.{held_unboxed}
+use Rattle.ft_trace.specs.Pictures.{ContainerWords, root_in, item_field, item_offset}
 use Rattle.ft_trace.specs.ItemWords.{said_at, words_at}
-use Rattle.ft_trace.specs.Holds.{held_words}
+use Rattle.ft_trace.specs.WholeWrites.{IsNoValue}
 use Rattle.ft_bank.specs.Passes.{shape_of, view}
 use Rattle.ft_bank.specs.TableNames.{table_id}
+use Rattle.ft_bank.specs.Whole.{OnlyPut}
 use Rattle.ft_bank.proofs.KnownAfterWrites.{loaded_put, put_by, put_then, work_knows}
 use Rattle.ft_list.specs.ListItemWrites.{known_items}
-use Rattle.ft_list.proofs.Cares.{few_slots, inside, close_care, item_room}
+use Rattle.ft_list.proofs.Cares.{few_slots, inside, close_care, far_word, item_room, set_own, writes_on}
 use Rattle.ft_list.proofs.items.close_item.Goals as goal
+use Rattle.ft_list.proofs.items.close_item.Goals.{After-put_word}
 
 pub word_at-requires-clause-place : goal.word_at-requires-clause-place
 word_at-requires-clause-place c =
@@ -24,7 +28,7 @@ pub overflow_add-version : goal.overflow_add-version
 overflow_add-version c =
     let a = c.args in
     let r = item_room (shape_of a.bank.now) a.o a.table (view a.pass.now) c.requires.list c.requires.pass.1 a.pass.now.possible a.bank.now.few a.place c.requires.place in
-    let found = c.read_word-version.ensures.found in
+    let found = c.read_version-version.ensures.found in
     omega (arith, r, found)
 
 pub put_word-requires-clause-word : goal.put_word-requires-clause-word
@@ -36,20 +40,61 @@ put_word-requires-clause-care c =
     let a = c.args in
     let k = shape_of a.bank.now in
     let v = view a.pass.now in
-    let w = view c.read_word-version.new.pass in
-    let e = c.read_word-version.ensures in
-    let found : c.read_word-version.result ≡ item_field (held_words a.o w).table a.place 0 = e.found ∙ sym (ap (λ (z : ContainerWords). item_field z.table a.place 0) e.held) in
+    let w = view c.read_version-version.new.pass in
+    let e = c.read_version-version.ensures in
+    let found : c.read_version-version.result ≡ item_field (held_unboxed a.o w).table a.place 0 = e.found ∙ sym (ap (λ (z : ContainerWords). item_field z.table a.place 0) e.held) in
     let known_now : known_items a.o w ≡ known_items a.o v = ap (λ (z : ContainerState). list_of z.content) (work_knows v w a.o e.only.work) in
-    let says : words_at (known_items a.o w) a.place ≡ said_at (held_words a.o w).table a.place =
+    let says : words_at (known_items a.o w) a.place ≡ said_at (held_unboxed a.o w).table a.place =
     ap (λ (z : List Value). words_at z a.place) known_now ∙ (c.requires.says ∙ sym (ap (λ (z : ContainerWords). said_at z.table a.place) e.held)) in
-    close_care k a.o a.table w e.list e.pass.1 a.place c.read_word-version.result c.word_at.result c.word_at.ensures (e.only.work.committed a.o ∙ c.requires.late) found c.if-version-eq1.true says
+    close_care k a.o a.table w e.list e.pass.1 a.place c.read_version-version.result c.word_at.result c.word_at.ensures (e.only.work.committed a.o ∙ c.requires.late) found c.if-version-eq1.true says
+
+-- the put of the version
+module _ (c : After-put_word) where
+  far : IsNoValue (kind_in (shape_of c.args.bank.now).starts c.args.o) (class_of (table_id c.args.table)) c.word_at.result
+  far = far_word (shape_of c.args.bank.now) c.args.o c.args.table (view c.read_version-version.new.pass) c.read_version-version.ensures.list c.read_version-version.ensures.pass.1 c.word_at.result c.args.place c.word_at.ensures
+
+  put : OnlyPut c.args.o (view c.read_version-version.new.pass) (view c.put_word.new.pass)
+  put =
+      let p = c.put_word.ensures in
+      put_by (PutTable c.args.o (table_id c.args.table) c.word_at.result (c.read_version-version.result + 1)) (view c.read_version-version.new.pass) (view c.put_word.new.pass) c.args.o tt p.did.1 p.keeps p.moves
 
 pub returns-then-version-eq1-clause-only : goal.returns-then-version-eq1-clause-only
 returns-then-version-eq1-clause-only c =
+    let d = (goal.at.returns-then-version-eq1-clause-only c).After-put_word in
+    let o = c.args.o in
+    let v = view c.args.pass.now in
+    let u = view c.read_version-version.new.pass in
+    put_then v u (view c.put_word.new.pass) o (loaded_put v u o c.read_version-version.ensures.only) (put d)
+
+pub returns-then-version-eq1-clause-list : goal.returns-then-version-eq1-clause-list
+returns-then-version-eq1-clause-list c =
+    let d = (goal.at.returns-then-version-eq1-clause-list c).After-put_word in
+    let a = c.args in
+    let e = c.read_version-version.ensures in
+    writes_on (shape_of a.bank.now) a.o a.table (view c.read_version-version.new.pass) (view c.put_word.new.pass) e.pass.1 (put d).work (c.put_word.ensures.same (far d)) (put d).made (ap root_in (c.put_word.ensures.unboxed (far d))) e.list
+
+pub returns-then-version-eq1-clause-item : goal.returns-then-version-eq1-clause-item
+returns-then-version-eq1-clause-item c =
+    let d = (goal.at.returns-then-version-eq1-clause-item c).After-put_word in
+    let e = c.read_version-version.ensures in
+    let even : (c.read_version-version.result + 1) % 2 ≡ 0 = let n = c.if-version-eq1.true in omega (arith, n) in
+    record {
+      version = c.read_version-version.result + 1;
+      even = even;
+      words = c.put_word.ensures.unboxed (far d) ∙ (λ i. record { block = (e.held i).block; table = slice_set (e.held i).table (c.word_at.ensures i) (c.read_version-version.result + 1) });
+    }
+
+pub returns-else-version-eq1-clause-only : goal.returns-else-version-eq1-clause-only
+returns-else-version-eq1-clause-only c = loaded_put (view c.args.pass.now) (view c.read_version-version.new.pass) c.args.o c.read_version-version.ensures.only
+
+pub returns-else-version-eq1-clause-item : goal.returns-else-version-eq1-clause-item
+returns-else-version-eq1-clause-item c =
     let a = c.args in
     let v = view a.pass.now in
-    let u = view c.read_word-version.new.pass in
-    let w = view c.put_word.new.pass in
-    let p = c.put_word.ensures in
-    put_then v u w a.o (loaded_put v u a.o c.read_word-version.ensures.only)
-    (put_by (PutTable a.o (table_id a.table) c.word_at.result (c.read_word-version.result + 1)) u w a.o tt p.did.1 p.keeps)
+    let e = c.read_version-version.ensures in
+    let even : c.read_version-version.result % 2 ≡ 0 = let n = c.if-version-eq1.false in omega (arith, n) in
+    record {
+      version = c.read_version-version.result;
+      even = even;
+      words = e.held ∙ (λ d. record { block = (held_unboxed a.o v).block; table = sym (set_own (held_unboxed a.o v).table (item_offset a.place 0) c.read_version-version.result e.found) d });
+    }

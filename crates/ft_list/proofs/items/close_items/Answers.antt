@@ -4,7 +4,7 @@ use Rattle.ft_trace.specs.Addresses.{class_of, slots}
 use Rattle.ft_trace.specs.ContainerStates.{ContainerState}
 use Rattle.ft_trace.specs.Pictures.{ContainerWords, item_offset}
 use Rattle.ft_trace.specs.ItemWords.{words_at}
-use Rattle.ft_trace.specs.Holds.{held_words}
+use Rattle.ft_trace.specs.Holds.{held_unboxed}
 use Rattle.ft_bank.specs.Passes.{shape_of, view}
 use Rattle.ft_bank.specs.TableNames.{table_id}
 use Rattle.ft_bank.proofs.KnownAfterWrites.{work_knows, put_then}
@@ -22,7 +22,7 @@ close_item-requires-clause-says c =
     let class = class_of (table_id a.table) in
     let here : c.loop-place.place < slots class = let t = c.loop-place-test.true in let p = c.requires.places in omega (arith, t, p) in
     ap (λ (z : ContainerState). words_at (list_of z.content) c.loop-place.place) (work_knows v w a.o i.only.work)
-    ∙ says class (known_items a.o v) (known_items a.o v) c.loop-place.place a.past (held_words a.o w).table i.changing c.loop-place.place here
+    ∙ says class (known_items a.o v) (known_items a.o v) c.loop-place.place a.past (held_unboxed a.o w).table i.changing c.loop-place.place here
 
 pub loop-place-preserved : goal.loop-place-preserved
 loop-place-preserved c =
@@ -34,7 +34,7 @@ loop-place-preserved c =
     let e = c.close_item.ensures in
     let class = class_of (table_id a.table) in
     let here : c.loop-place.place < slots class = let t = c.loop-place-test.true in let p = c.requires.places in omega (arith, t, p) in
-    let low : item_offset c.loop-place.place 0 < length (held_words a.o w).table = let l = long_enough (shape_of a.bank.now) a.o a.table w i.list c.loop-place.place here in omega (arith, l) in
+    let low : item_offset c.loop-place.place 0 < length (held_unboxed a.o w).table = let l = long_enough (shape_of a.bank.now) a.o a.table w i.list c.loop-place.place here in omega (arith, l) in
     let laws = c.versions_change_nothing.ensures in
     let next : c.loop-place.place + 1 ≡ suc c.loop-place.place = omega arith in
     record {
@@ -44,8 +44,8 @@ loop-place-preserved c =
       late = e.only.work.committed a.o ∙ i.late;
       only = put_then v w z a.o i.only e.only;
       block = ap (λ (x : ContainerWords). x.block) e.item.words ∙ i.block;
-      changing = subst (λ (n : ℕ). IsChanging class (known_items a.o v) (known_items a.o v) n a.past (held_words a.o z).table) (sym next)
-          (changing_closed class (known_items a.o v) (known_items a.o v) c.loop-place.place a.past (held_words a.o w).table i.changing
+      changing = subst (λ (n : ℕ). IsChanging class (known_items a.o v) (known_items a.o v) n a.past (held_unboxed a.o z).table) (sym next)
+          (changing_closed class (known_items a.o v) (known_items a.o v) c.loop-place.place a.past (held_unboxed a.o w).table i.changing
           (λ mask values words place version table. laws.items mask values words _ (laws.item words place version) table)
-          (held_words a.o w).block (held_words a.o z) e.item.version refl e.item.even low e.item.words);
+          (held_unboxed a.o w).block (held_unboxed a.o z) e.item.version refl e.item.even low e.item.words);
     }

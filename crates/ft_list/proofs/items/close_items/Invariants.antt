@@ -1,7 +1,7 @@
 use Rattle.std.proofs.Common.{◌≡◌, true}
 use Rattle.ft_trace.specs.Acts.{has_committed}
 use Rattle.ft_trace.specs.Addresses.{class_of}
-use Rattle.ft_trace.specs.Holds.{held_words}
+use Rattle.ft_trace.specs.Holds.{held_unboxed}
 use Rattle.ft_bank.specs.Passes.{shape_of, view, IsPassOf}
 use Rattle.ft_bank.specs.PassSections.{stack_of}
 use Rattle.ft_bank.specs.TableNames.{table_id}
@@ -17,6 +17,6 @@ invariant-loop-place l =
       list : WritesList (shape_of l.bank) l.o l.table (view l.pass);
       late : has_committed l.o (view l.pass).log ≡ true;
       only : OnlyPut l.o (view l.initial.pass) (view l.pass);
-      block : (held_words l.o (view l.pass)).block ≡ (held_words l.o (view l.initial.pass)).block;
-      changing : IsChanging (class_of (table_id l.table)) (known_items l.o (view l.initial.pass)) (known_items l.o (view l.initial.pass)) l.place l.past (held_words l.o (view l.pass)).table;
+      block : (held_unboxed l.o (view l.pass)).block ≡ (held_unboxed l.o (view l.initial.pass)).block;
+      changing : IsChanging (class_of (table_id l.table)) (known_items l.o (view l.initial.pass)) (known_items l.o (view l.initial.pass)) l.place l.past (held_unboxed l.o (view l.pass)).table;
     }

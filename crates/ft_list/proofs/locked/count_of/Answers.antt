@@ -6,10 +6,14 @@ use Rattle.ft_bank.proofs.KnownAfterWrites.{loaded_by}
 use Rattle.ft_list.proofs.Lists.{content_of, list_counts, may_loaded, items_loaded}
 use Rattle.ft_list.proofs.locked.count_of.Goals as goal
 
+pub returns-clause-only : goal.returns-clause-only
+returns-clause-only c =
+    loaded_by (ReadBlock c.args.l 1 c.read_block.result) (view c.args.pass.now) (view c.read_block.new.pass) tt c.read_block.ensures.did.1
+
 pub returns-clause-may : goal.returns-clause-may
 returns-clause-may c =
     let a = c.args in
-    may_loaded (shape_of a.bank.now) a.l (view a.pass.now) (view c.read_block.new.pass) (loaded_by (ReadBlock a.l 1 c.read_block.result) _ _ tt c.read_block.ensures.did.1) c.requires.may
+    may_loaded (shape_of a.bank.now) a.l (view a.pass.now) (view c.read_block.new.pass) c.requires.pass.1 (loaded_by (ReadBlock a.l 1 c.read_block.result) _ _ tt c.read_block.ensures.did.1) c.requires.may
 
 pub returns-clause-items : goal.returns-clause-items
 returns-clause-items c =

@@ -66,7 +66,7 @@ returns-in-Some-clause-made c =
     let means : index_in (length values) z ≡ Some c.in-Some.place = ap (λ (n : ℕ). index_in n z) (sym long) ∙ (sym c.place_in.ensures.answer ∙ c.in-Some.is) in
     subst (λ (i : ℤ). MadeAs (call.List a.l (list.Del i)) reply.Done (record { number = c.remove_item-number.result; wrote = true }) v x) (to_z-of_z {w = w64} {z = a.index} c.ranges.index)
     (wrote_as k a.l (list.Del z) reply.Done v w x e.pass.1 c.table_of-table.new.pass.possible e.may (loaded_then v u w c.count_of-count.ensures.only e.only) c.remove_item-number.result (remove values c.in-Some.place)
-    (del_changes a.l z values c.in-Some.place w low e.may.locked (content_of k a.l w e.pass.1 c.table_of-table.new.pass.possible e.may) means) c.remove_item-number.ensures.wrote c.remove_item-number.ensures.root)
+    (del_changes a.l z values c.in-Some.place w low e.may.locked (content_of k a.l w e.pass.1 c.table_of-table.new.pass.possible e.may) means) c.remove_item-number.ensures.wrote c.remove_item-number.ensures.root c.remove_item-number.ensures.references)
 
 pub returns-in-None-clause-made : goal.returns-in-None-clause-made
 returns-in-None-clause-made c =

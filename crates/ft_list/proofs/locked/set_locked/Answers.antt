@@ -69,7 +69,7 @@ returns-in-Some-clause-made c =
     let means : index_in (length values) z ≡ Some c.in-Some.place = ap (λ (n : ℕ). index_in n z) (sym long) ∙ (sym c.place_in.ensures.answer ∙ c.in-Some.is) in
     subst (λ (i : ℤ). MadeAs (call.List a.l (list.Set i a.value)) reply.Done (record { number = c.set_item-number.result; wrote = true }) v x) (to_z-of_z {w = w64} {z = a.index} c.ranges.index)
     (wrote_as k a.l (list.Set z a.value) reply.Done v w x e.pass.1 c.table_of-table.new.pass.possible e.may (loaded_then v u w c.count_of-count.ensures.only e.only) c.set_item-number.result (slice_set values c.in-Some.place a.value)
-    (set_changes a.l z a.value values c.in-Some.place w low e.may.locked (content_of k a.l w e.pass.1 c.table_of-table.new.pass.possible e.may) c.value_fits.ensures means) c.set_item-number.ensures.wrote c.set_item-number.ensures.root)
+    (set_changes a.l z a.value values c.in-Some.place w low e.may.locked (content_of k a.l w e.pass.1 c.table_of-table.new.pass.possible e.may) c.value_fits.ensures means) c.set_item-number.ensures.wrote c.set_item-number.ensures.root c.set_item-number.ensures.references)
 
 pub returns-in-None-clause-made : goal.returns-in-None-clause-made
 returns-in-None-clause-made c =

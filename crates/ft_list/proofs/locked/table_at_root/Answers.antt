@@ -1,8 +1,10 @@
 use Rattle.std.proofs.Common.{Option, refl, sym, ◌∙◌, subst}
 use Rattle.std.specs.Prelude.{IfSome}
+use Rattle.ft_trace.specs.declared.Act.TheVariants.{ReadBlock}
 use Rattle.ft_bank.specs.declared.table.Table.{Table}
-use Rattle.ft_bank.specs.Passes.{shape_of}
+use Rattle.ft_bank.specs.Passes.{shape_of, view}
 use Rattle.ft_bank.specs.TableNames.{IsTableIn}
+use Rattle.ft_bank.proofs.KnownAfterWrites.{loaded_by}
 use Rattle.ft_list.proofs.Additions.{root_named}
 use Rattle.ft_list.proofs.locked.table_at_root.Goals as goal
 
@@ -18,3 +20,7 @@ pub returns-clause-root : goal.returns-clause-root
 returns-clause-root c =
     let t = c.table_at.ensures in
     sym (c.read_block-root.ensures.held c.requires.locked) ∙ root_named c.table_at.result c.read_block-root.result t.named t.none
+
+pub returns-clause-only : goal.returns-clause-only
+returns-clause-only c =
+    loaded_by (ReadBlock c.args.l 0 c.read_block-root.result) (view c.args.pass.now) (view c.read_block-root.new.pass) tt c.read_block-root.ensures.did.1

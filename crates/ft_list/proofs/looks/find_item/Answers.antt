@@ -3,11 +3,10 @@ use Rattle.ft_trace.specs.declared.Act.{Act}
 use Rattle.ft_trace.specs.declared.Act.TheVariants.{ReadRoot}
 use Rattle.ft_trace.specs.Acts.{announces}
 use Rattle.ft_bank.specs.Passes.{shape_of, view}
-use Rattle.ft_bank.specs.Whole.{OnlyLoaded}
 use Rattle.ft_list.specs.ItemLooks.{ShowsFound}
 use Rattle.ft_list.proofs.LookRounds.{found_in, falls}
 use Rattle.ft_search.proofs.Running.{did_trans, did_log}
-use Rattle.ft_search.proofs.Rounding.{looks_inner, looks_append, looks_load, looks_announce}
+use Rattle.ft_search.proofs.Rounding.{looks_inner, looks_append, looks_did, looks_announce}
 use Rattle.ft_list.proofs.looks.find_item.Goals as goal
 
 pub rounds-init : goal.rounds-init
@@ -37,7 +36,7 @@ returns-in-Ended-clause-keeps c =
     let old : List Act = ReadRoot c.args.o c.rounds.root ∷ m.0 in
     let e = c.in-Ended.ensures.ended in
     let did = did_trans e.0 old c.args.pass.now c.rounds.pass c.look_round.new.pass m.2 e.2 in
-    subst (OnlyLoaded (view c.args.pass.now)) (sym did.1) (looks_load (e.0 ++ old) (view c.args.pass.now) (looks_append e.0 old e.1 m.1))
+    looks_did (e.0 ++ old) c.args.pass.now c.look_round.new.pass (looks_append e.0 old e.1 m.1) did
 
 pub returns-in-Ended-clause-looked : goal.returns-in-Ended-clause-looked
 returns-in-Ended-clause-looked c =

@@ -34,5 +34,5 @@ returns-clause-ended c =
       part,
       tt,
       subst (λ (z : ℕ). DidAll (ReadRoot a.o z ∷ part) a.pass.now r.new.pass) same (did_trans (ReadRoot a.o r.result ∷ []) part a.pass.now c.stamp-number.new.pass r.new.pass c.stamp-number.ensures.did r.ensures.did),
-      past_closes a.o t a.index n c.requires.index,
+      past_closes (shape_of a.bank.now) a.o t a.index n c.requires.index,
     )

@@ -44,7 +44,7 @@ returns-then-index-list_items-clause-ended c =
     let t = table_id c.in-Some.table in
     let is = c.in-Some.ensures.named in
     subst (λ (z : ℕ). EndsItemRound (shape_of c.args.bank.now) c.args.o c.args.index z c.args.pass.now c.look_at.new.pass c.look_at.result) (sym is)
-    (at_table (shape_of c.args.bank.now) c.args.o c.args.index t c.args.pass.now c.look_at.new.pass c.look_at.result c.requires.last.0
+    (at_table (shape_of c.args.bank.now) c.args.o c.args.index t c.args.pass.now c.look_at.new.pass c.look_at.result c.requires.last.0 c.look_at.ensures.pass.1
     (c.requires.last.1 ∙ ap (λ (z : ℕ). ReadRoot c.args.o z ∷ c.requires.last.0) is) c.look_at.ensures.ended)
 
 pub returns-else-index-list_items-clause-ended : goal.returns-else-index-list_items-clause-ended
@@ -52,5 +52,5 @@ returns-else-index-list_items-clause-ended c =
     let t = table_id c.in-Some.table in
     let is = c.in-Some.ensures.named in
     subst (λ (z : ℕ). EndsItemRound (shape_of c.args.bank.now) c.args.o c.args.index z c.args.pass.now c.look_past.new.pass c.look_past.result) (sym is)
-    (at_table (shape_of c.args.bank.now) c.args.o c.args.index t c.args.pass.now c.look_past.new.pass c.look_past.result c.requires.last.0
+    (at_table (shape_of c.args.bank.now) c.args.o c.args.index t c.args.pass.now c.look_past.new.pass c.look_past.result c.requires.last.0 c.look_past.ensures.pass.1
     (c.requires.last.1 ∙ ap (λ (z : ℕ). ReadRoot c.args.o z ∷ c.requires.last.0) is) c.look_past.ensures.ended)

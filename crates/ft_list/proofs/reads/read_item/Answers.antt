@@ -35,7 +35,8 @@ returns-then-place-list_items-clause-reads c =
     reads_map k a.l (λ x. (root ≡ slice_index x.block 0) × IsItemValue t a.place found x) (IsItemAt k a.place found) p r
     (λ x both kept is stands low.
     let names = sym both.0 ∙ c.in-Some.ensures.named in
-    both.1 names (slice_index_or (list_of kept.content) a.place value.Nothing) ((item_says k.texts x kept t (table_class k table is_in) is stands names).1 a.place low))
+    let says = (item_says k.texts x kept t (table_class k table is_in) is stands names).1 a.place low in
+    both.1 names says.0 (slice_index_or (list_of kept.content) a.place value.Nothing) says.1)
     (reads_then k a.l (λ x. root ≡ slice_index x.block 0) (IsItemValue t a.place found) p q r (reads_block k a.l 0 root p q (omega arith) e.did e.held) c.read_value.ensures.reads)
 
 pub returns-else-place-list_items-clause-reads : goal.returns-else-place-list_items-clause-reads

@@ -37,7 +37,7 @@ returns-in-Some-clause-made c =
     let x = view c.remove_item-number.new.pass in
     let e = c.table_of-table.ensures in
     let f = c.item_at-item.ensures in
-    let may = may_loaded k a.l t y f.only e.may in
+    let may = may_loaded k a.l t y e.pass.1 f.only e.may in
     let z = unwrap_or a.index (negsuc 0) in
     let index : to_z w64 (of_z w64 c.unwrap_or.result) ≡ z = to_z-of_z {w = w64} {z = c.unwrap_or.result} (sfits_lit (subst T (sym (lt-ltb (mag c.unwrap_or.result) (2 ^ 63) c.unwrap_or.type_inv)) tt)) ∙ c.unwrap_or.ensures in
     let values = known_items a.l y in
@@ -50,7 +50,7 @@ returns-in-Some-clause-made c =
     wrote_as k a.l (list.Pop a.index) (reply.Value c.item_at-item.result) v y x f.pass.1 c.item_at-item.new.pass.possible may
     (loaded_then v u y c.count_of-count.ensures.only (loaded_then u t y e.only f.only)) c.remove_item-number.result (remove values c.in-Some.place)
     (subst (λ (i : Value). Changes a.l (list.Pop a.index) (reply.Value i) values (remove values c.in-Some.place) y) item changes)
-    c.remove_item-number.ensures.wrote c.remove_item-number.ensures.root
+    c.remove_item-number.ensures.wrote c.remove_item-number.ensures.root c.remove_item-number.ensures.references
 
 pub returns-in-None-clause-made : goal.returns-in-None-clause-made
 returns-in-None-clause-made c =

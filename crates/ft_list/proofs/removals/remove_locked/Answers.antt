@@ -113,7 +113,7 @@ returns-in-Some-clause-made c =
     let low : a.l < container_count n.shape = subst (λ (z : Shape). a.l < container_count z) (sym e.pass.1) e.may.container in
     let only = loaded_then (view p) (view q) n loaded (loaded_then (view q) (view c.table_of-table.new.pass) n c.table_of-table.ensures.only e.only) in
     wrote_as k a.l (list.Remove a.value) reply.Done (view p) n (view c.remove_item-number.new.pass) e.pass.1 c.count_of-count.new.pass.possible e.may only c.remove_item-number.result (remove values c.in-Some.place)
-    (remove_changes a.l a.value values c.in-Some.place n low e.may.locked (content_of k a.l n e.pass.1 c.count_of-count.new.pass.possible e.may) c.value_fits.ensures means) c.remove_item-number.ensures.wrote c.remove_item-number.ensures.root
+    (remove_changes a.l a.value values c.in-Some.place n low e.may.locked (content_of k a.l n e.pass.1 c.count_of-count.new.pass.possible e.may) c.value_fits.ensures means) c.remove_item-number.ensures.wrote c.remove_item-number.ensures.root c.remove_item-number.ensures.references
 
 pub returns-in-Some-clause-raises : goal.returns-in-Some-clause-raises
 returns-in-Some-clause-raises c none =

@@ -3,7 +3,7 @@ use Rattle.std.specs.Prelude.{reverse}
 use Rattle.std.proofs.lemmas.List.{length-reverse}
 use Rattle.ft_layout.specs.Containers.{IsBlock}
 use Rattle.ft_trace.specs.Addresses.{class_of}
-use Rattle.ft_trace.specs.Holds.{held_words}
+use Rattle.ft_trace.specs.Holds.{held_unboxed}
 use Rattle.ft_bank.specs.Passes.{shape_of, view}
 use Rattle.ft_bank.specs.TableNames.{table_id}
 use Rattle.ft_list.specs.ListItemWrites.{known_items}
@@ -11,6 +11,7 @@ use Rattle.ft_list.specs.Internal.Reversing.{IsTurning}
 use Rattle.ft_list.proofs.Cares.{table_class}
 use Rattle.ft_list.proofs.Turned.{turning_ends}
 use Rattle.ft_list.proofs.WholeListWrites.{finishing, list_wrote, root_wrote}
+use Rattle.ft_search.proofs.Puts.{same_done}
 use Rattle.ft_list.proofs.turning.reverse_items.Goals as goal
 use Rattle.ft_list.proofs.ItemWordsPut.{Changed}
 
@@ -35,9 +36,9 @@ finish-requires-clause-may c =
     let is_class = table_class k a.table c.requires.table.table_in in
     let count : length values ≡ a.count = sym c.requires.count in
     let turning = e.turned values count (b.putting 0 a.count) in
-    let changing = subst (λ (n : ℕ). Changed class values news 0 n (held_words a.o u).table) count
-    (turning_ends class is_class values (held_words a.o u).table (subst (λ (n : ℕ). IsTurning class values (n / 2) (held_words a.o u).table) (sym count) turning) b.few) in
-    let head = subst (λ (n : ℕ). IsBlock (held_words a.o u).block (Some class) n 0 0) (sym (length-reverse values)) (subst (λ (l : List ℕ). IsBlock l (Some class) (length values) 0 0) (sym e.block) b.head) in
+    let changing = subst (λ (n : ℕ). Changed class values news 0 n (held_unboxed a.o u).table) count
+    (turning_ends class is_class values (held_unboxed a.o u).table (subst (λ (n : ℕ). IsTurning class values (n / 2) (held_unboxed a.o u).table) (sym count) turning) b.few) in
+    let head = subst (λ (n : ℕ). IsBlock (held_unboxed a.o u).block (Some class) n 0 0) (sym (length-reverse values)) (subst (λ (l : List ℕ). IsBlock l (Some class) (length values) 0 0) (sym e.block) b.head) in
     let d = b.did in
     let call_is = c.requires.call in
     finishing k a.o a.table v s u d.0 c.requires.may d.1.1 e.only 0 a.count call_is.0 a.called.now a.said.now values news call_is.1 call_is.2 b.content b.table e.list e.pass.1 changing head
@@ -65,3 +66,13 @@ returns-clause-root c =
     let e = c.turn.ensures in
     let call_is = c.requires.call in
     root_wrote k a.o a.table v s u d.0 c.requires.may d.1.1 e.only call_is.0 a.called.now a.said.now c.finish.result (view c.finish.new.pass) call_is.1 call_is.2.write.changing c.finish.ensures.ends (e.list.root ∙ sym c.requires.table.root)
+
+pub returns-clause-references : goal.returns-clause-references
+returns-clause-references c =
+    let a = c.args in
+    let e = c.turn.ensures in
+    let same = same_done (shape_of a.bank.now) (view a.pass.now) (view c.turn.new.pass) c.requires.pass.1 e.pass.1 c.requires.may.boxes e.list.boxes in
+    λ n. c.finish.ensures.references n ∙ same n
+
+pub turn-requires-clause-before : goal.turn-requires-clause-before
+turn-requires-clause-before c = (known_items c.args.o (view c.args.pass.now), sym c.requires.count, c.begin.ensures.putting 0 c.args.count)

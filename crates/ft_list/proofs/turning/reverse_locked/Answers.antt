@@ -7,7 +7,7 @@ use Rattle.ft_trace.specs.declared.Act.TheVariants.{ReadBlock}
 use Rattle.ft_trace.specs.declared.Shape.{Shape}
 use Rattle.ft_trace.specs.declared.View.{View}
 use Rattle.ft_trace.specs.Addresses.{container_count}
-use Rattle.ft_trace.specs.Holds.{held_words, known_state}
+use Rattle.ft_trace.specs.Holds.{held_unboxed, known_state}
 use Rattle.ft_trace.specs.Pictures.{root_in}
 use Rattle.ft_bank.specs.Passes.{shape_of, view}
 use Rattle.ft_bank.proofs.KnownAfterWrites.{loaded_by, loaded_then, loaded_held}
@@ -32,7 +32,7 @@ reverse_items-number-requires-clause-may c =
     let e = c.count_of-count.ensures in
     let f = c.read_block-root.ensures in
     let only = loaded_by (ReadBlock a.l 0 root) u t tt f.did.1 in
-    let may = may_loaded k a.l u t only e.may in
+    let may = may_loaded k a.l u t e.pass.1 only e.may in
     let shape = ap (λ (z : View). z.shape) f.did.1 ∙ e.pass.1 in
     let values = known_items a.l t in
     let low : a.l < container_count t.shape = subst (λ (s : Shape). a.l < container_count s) (sym shape) may.container in
@@ -51,7 +51,7 @@ reverse_items-number-requires-clause-table c =
     let e = c.count_of-count.ensures in
     let f = c.read_block-root.ensures in
     let only = loaded_by (ReadBlock a.l 0 root) u t tt f.did.1 in
-    let may = may_loaded k a.l u t only e.may in
+    let may = may_loaded k a.l u t e.pass.1 only e.may in
     let shape = ap (λ (z : View). z.shape) f.did.1 ∙ e.pass.1 in
     let values = known_items a.l t in
     let low : a.l < container_count t.shape = subst (λ (s : Shape). a.l < container_count s) (sym shape) may.container in
@@ -73,7 +73,7 @@ reverse_items-number-requires-clause-count c =
     let e = c.count_of-count.ensures in
     let f = c.read_block-root.ensures in
     let only = loaded_by (ReadBlock a.l 0 root) u t tt f.did.1 in
-    let may = may_loaded k a.l u t only e.may in
+    let may = may_loaded k a.l u t e.pass.1 only e.may in
     let shape = ap (λ (z : View). z.shape) f.did.1 ∙ e.pass.1 in
     let values = known_items a.l t in
     let low : a.l < container_count t.shape = subst (λ (s : Shape). a.l < container_count s) (sym shape) may.container in
@@ -92,7 +92,7 @@ reverse_items-number-requires-clause-call c =
     let e = c.count_of-count.ensures in
     let f = c.read_block-root.ensures in
     let only = loaded_by (ReadBlock a.l 0 root) u t tt f.did.1 in
-    let may = may_loaded k a.l u t only e.may in
+    let may = may_loaded k a.l u t e.pass.1 only e.may in
     let shape = ap (λ (z : View). z.shape) f.did.1 ∙ e.pass.1 in
     let values = known_items a.l t in
     let low : a.l < container_count t.shape = subst (λ (s : Shape). a.l < container_count s) (sym shape) may.container in
@@ -111,7 +111,7 @@ write_nothing-number-requires-clause-may c =
     let e = c.count_of-count.ensures in
     let f = c.read_block-root.ensures in
     let only = loaded_by (ReadBlock a.l 0 root) u t tt f.did.1 in
-    let may = may_loaded k a.l u t only e.may in
+    let may = may_loaded k a.l u t e.pass.1 only e.may in
     let shape = ap (λ (z : View). z.shape) f.did.1 ∙ e.pass.1 in
     let values = known_items a.l t in
     let low : a.l < container_count t.shape = subst (λ (s : Shape). a.l < container_count s) (sym shape) may.container in
@@ -130,14 +130,14 @@ write_nothing-number-requires-clause-bare c =
     let e = c.count_of-count.ensures in
     let f = c.read_block-root.ensures in
     let only = loaded_by (ReadBlock a.l 0 root) u t tt f.did.1 in
-    let may = may_loaded k a.l u t only e.may in
+    let may = may_loaded k a.l u t e.pass.1 only e.may in
     let shape = ap (λ (z : View). z.shape) f.did.1 ∙ e.pass.1 in
     let values = known_items a.l t in
     let low : a.l < container_count t.shape = subst (λ (s : Shape). a.l < container_count s) (sym shape) may.container in
     let is_list = content_of k a.l t shape c.read_block-root.new.pass.possible may in
     let turned = reverse_changes a.l values t low may.locked is_list in
-    let none : root_in (held_words a.l t) ≡ 0 = ap root_in (loaded_held u t a.l only) ∙ (sym (f.held e.may.locked) ∙ c.in-None.ensures.none k (λ n x. f.table n refl x)) in
-    let same : reverse values ≡ values = reversed_none values (no_items k.texts (held_words a.l t) (known_state a.l t) none may.stands) in
+    let none : root_in (held_unboxed a.l t) ≡ 0 = ap root_in (loaded_held u t a.l only) ∙ (sym (f.held e.may.locked) ∙ c.in-None.ensures.none k (λ n x. f.table n refl x)) in
+    let same : reverse values ≡ values = reversed_none values (no_items k.texts (held_unboxed a.l t) (known_state a.l t) none may.stands) in
     let stays = subst (λ (z : List Value). Changes a.l list.Reverse reply.Done values z t) same turned in
     none
 
@@ -152,14 +152,14 @@ write_nothing-number-requires-clause-leaves c =
     let e = c.count_of-count.ensures in
     let f = c.read_block-root.ensures in
     let only = loaded_by (ReadBlock a.l 0 root) u t tt f.did.1 in
-    let may = may_loaded k a.l u t only e.may in
+    let may = may_loaded k a.l u t e.pass.1 only e.may in
     let shape = ap (λ (z : View). z.shape) f.did.1 ∙ e.pass.1 in
     let values = known_items a.l t in
     let low : a.l < container_count t.shape = subst (λ (s : Shape). a.l < container_count s) (sym shape) may.container in
     let is_list = content_of k a.l t shape c.read_block-root.new.pass.possible may in
     let turned = reverse_changes a.l values t low may.locked is_list in
-    let none : root_in (held_words a.l t) ≡ 0 = ap root_in (loaded_held u t a.l only) ∙ (sym (f.held e.may.locked) ∙ c.in-None.ensures.none k (λ n x. f.table n refl x)) in
-    let same : reverse values ≡ values = reversed_none values (no_items k.texts (held_words a.l t) (known_state a.l t) none may.stands) in
+    let none : root_in (held_unboxed a.l t) ≡ 0 = ap root_in (loaded_held u t a.l only) ∙ (sym (f.held e.may.locked) ∙ c.in-None.ensures.none k (λ n x. f.table n refl x)) in
+    let same : reverse values ≡ values = reversed_none values (no_items k.texts (held_unboxed a.l t) (known_state a.l t) none may.stands) in
     let stays = subst (λ (z : List Value). Changes a.l list.Reverse reply.Done values z t) same turned in
     leaves_same a.l list.Reverse reply.Done values t low may.locked is_list stays
 
@@ -174,14 +174,14 @@ returns-in-Some-clause-made c =
     let e = c.count_of-count.ensures in
     let f = c.read_block-root.ensures in
     let only = loaded_by (ReadBlock a.l 0 root) u t tt f.did.1 in
-    let may = may_loaded k a.l u t only e.may in
+    let may = may_loaded k a.l u t e.pass.1 only e.may in
     let shape = ap (λ (z : View). z.shape) f.did.1 ∙ e.pass.1 in
     let values = known_items a.l t in
     let low : a.l < container_count t.shape = subst (λ (s : Shape). a.l < container_count s) (sym shape) may.container in
     let is_list = content_of k a.l t shape c.read_block-root.new.pass.possible may in
     let turned = reverse_changes a.l values t low may.locked is_list in
     wrote_as k a.l list.Reverse reply.Done v t (view c.reverse_items-number.new.pass) shape c.read_block-root.new.pass.possible may (loaded_then v u t e.only only) c.reverse_items-number.result (reverse values) turned
-    c.reverse_items-number.ensures.wrote c.reverse_items-number.ensures.root
+    c.reverse_items-number.ensures.wrote c.reverse_items-number.ensures.root c.reverse_items-number.ensures.references
 
 pub returns-in-None-clause-made : goal.returns-in-None-clause-made
 returns-in-None-clause-made c =
@@ -194,14 +194,14 @@ returns-in-None-clause-made c =
     let e = c.count_of-count.ensures in
     let f = c.read_block-root.ensures in
     let only = loaded_by (ReadBlock a.l 0 root) u t tt f.did.1 in
-    let may = may_loaded k a.l u t only e.may in
+    let may = may_loaded k a.l u t e.pass.1 only e.may in
     let shape = ap (λ (z : View). z.shape) f.did.1 ∙ e.pass.1 in
     let values = known_items a.l t in
     let low : a.l < container_count t.shape = subst (λ (s : Shape). a.l < container_count s) (sym shape) may.container in
     let is_list = content_of k a.l t shape c.read_block-root.new.pass.possible may in
     let turned = reverse_changes a.l values t low may.locked is_list in
-    let none : root_in (held_words a.l t) ≡ 0 = ap root_in (loaded_held u t a.l only) ∙ (sym (f.held e.may.locked) ∙ c.in-None.ensures.none k (λ n x. f.table n refl x)) in
-    let same : reverse values ≡ values = reversed_none values (no_items k.texts (held_words a.l t) (known_state a.l t) none may.stands) in
+    let none : root_in (held_unboxed a.l t) ≡ 0 = ap root_in (loaded_held u t a.l only) ∙ (sym (f.held e.may.locked) ∙ c.in-None.ensures.none k (λ n x. f.table n refl x)) in
+    let same : reverse values ≡ values = reversed_none values (no_items k.texts (held_unboxed a.l t) (known_state a.l t) none may.stands) in
     let stays = subst (λ (z : List Value). Changes a.l list.Reverse reply.Done values z t) same turned in
     wrote_as k a.l list.Reverse reply.Done v t (view c.write_nothing-number.new.pass) shape c.read_block-root.new.pass.possible may (loaded_then v u t e.only only) c.write_nothing-number.result values stays
-    c.write_nothing-number.ensures.wrote c.write_nothing-number.ensures.root
+    c.write_nothing-number.ensures.wrote c.write_nothing-number.ensures.root c.write_nothing-number.ensures.references

@@ -1,15 +1,57 @@
-use Rattle.std.proofs.Common.{◌≡◌, ◌-◌, sym, ◌∙◌, subst, arith}
-use Rattle.ft_layout.specs.Words.{IsStored}
+use Rattle.std.proofs.Common.{List, ◌≡◌, ◌-◌, sym, ◌∙◌, subst, arith, length, ap, ℕ}
+use Rattle.ft_layout.specs.Words.{IsStored, stored_kind}
 use Rattle.ft_trace.specs.Addresses.{class_of}
 use Rattle.ft_trace.specs.Pictures.{ContainerWords, item_field}
-use Rattle.ft_trace.specs.Holds.{held_words}
+use Rattle.ft_trace.specs.Holds.{held_unboxed}
 use Rattle.ft_bank.specs.Passes.{shape_of, view}
 use Rattle.ft_bank.specs.TableNames.{table_id}
-use Rattle.ft_bank.proofs.KnownAfterWrites.{loaded_put, loaded_then, put_then}
+use Rattle.ft_bank.proofs.KnownAfterWrites.{loaded_then, written_then}
 use Rattle.ft_list.specs.ListItemWrites.{PutsItem, stored_item}
 use Rattle.ft_list.proofs.Cares.{table_class}
 use Rattle.ft_list.proofs.Turned.{turning_finds, turning_next}
+use Rattle.ft_list.proofs.ItemValues.{item_plain}
+use Rattle.ft_model.specs.declared.data.Value.{Value}
+use Rattle.ft_list.specs.Internal.Reversing.{IsTurning}
+use Rattle.ft_model.specs.Classes.{IsClass}
+use Rattle.ft_list.proofs.Written.{loaded_written}
 use Rattle.ft_list.proofs.turning.swap.Goals as goal
+use Rattle.ft_list.proofs.turning.swap.Goals.{After-item-late}
+
+-- what the two items store, of a list with these values
+module _ (c : After-item-late) (values : List Value) (long : length values ≡ c.args.count) (turning : IsTurning (class_of (table_id c.args.table)) values c.args.at (held_unboxed c.args.o (view c.args.pass.now)).table) where
+  abbrev class : ℕ
+  class = class_of (table_id c.args.table)
+
+  is_class : IsClass class
+  is_class = table_class (shape_of c.args.bank.now) c.args.table c.requires.list.table_in
+
+  abbrev last_place : ℕ
+  last_place = c.args.count - 1 - c.args.at
+
+  early_is : c.item-early.result ≡ stored_item values c.args.at
+  early_is =
+      let places = c.requires.places in
+      c.item-early.ensures.stored (stored_item values c.args.at)
+      (turning_finds class is_class values c.args.at c.args.at (held_unboxed c.args.o (view c.args.pass.now)).table turning (omega arith) (omega (arith, places, long)) (omega (arith, places)))
+
+  late_is : c.item-late.result ≡ stored_item values last_place
+  late_is =
+      let places = c.requires.places in
+      c.item-late.ensures.stored (stored_item values last_place)
+      (subst (λ (w : ContainerWords). IsStored (item_field w.table last_place 1) (item_field w.table last_place 2) (stored_item values last_place)) (sym c.item-early.ensures.held)
+      (turning_finds class is_class values c.args.at last_place (held_unboxed c.args.o (view c.args.pass.now)).table turning (omega (arith, places)) (omega (arith, places, long)) (omega (arith, places))))
+
+pub put_item-requires-clause-plain : goal.put_item-requires-clause-plain
+put_item-requires-clause-plain c e =
+    let b = c.requires.before in
+    let d = (goal.at.put_item-requires-clause-plain c).After-item-late in
+    item_plain b.0 (c.args.count - 1 - c.args.at) (sym (ap stored_kind (late_is d b.0 b.1 b.2)) ∙ e)
+
+pub put_item-requires-2-clause-plain : goal.put_item-requires-2-clause-plain
+put_item-requires-2-clause-plain c e =
+    let b = c.requires.before in
+    let d = (goal.at.put_item-requires-2-clause-plain c).After-item-late in
+    item_plain b.0 c.args.at (sym (ap stored_kind (early_is d b.0 b.1 b.2)) ∙ e)
 
 pub returns-clause-turned : goal.returns-clause-turned
 returns-clause-turned c values long turning =
@@ -18,17 +60,16 @@ returns-clause-turned c values long turning =
     let is_class = table_class (shape_of a.bank.now) a.table c.requires.list.table_in in
     let last = a.count - 1 - a.at in
     let places = c.requires.places in
-    let v = held_words a.o (view a.pass.now) in
-    let y = held_words a.o (view c.item-early.new.pass) in
-    let z = held_words a.o (view c.item-late.new.pass) in
-    let m = held_words a.o (view c.put_item.new.pass) in
-    let n = held_words a.o (view c.put_item-2.new.pass) in
+    let v = held_unboxed a.o (view a.pass.now) in
+    let y = held_unboxed a.o (view c.item-early.new.pass) in
+    let z = held_unboxed a.o (view c.item-late.new.pass) in
+    let m = held_unboxed a.o (view c.put_item.new.pass) in
+    let n = held_unboxed a.o (view c.put_item-2.new.pass) in
     let e = c.item-early.ensures in
     let f = c.item-late.ensures in
-    let early : c.item-early.result ≡ stored_item values a.at = e.stored (stored_item values a.at) (turning_finds class is_class values a.at a.at v.table turning (omega arith) (omega (arith, places, long)) (omega (arith, places))) in
-    let late : c.item-late.result ≡ stored_item values last = f.stored (stored_item values last)
-    (subst (λ (w : ContainerWords). IsStored (item_field w.table last 1) (item_field w.table last 2) (stored_item values last)) (sym e.held)
-    (turning_finds class is_class values a.at last v.table turning (omega (arith, places)) (omega (arith, places, long)) (omega (arith, places)))) in
+    let d = (goal.at.returns-clause-turned c).After-item-late in
+    let early = early_is d values long turning in
+    let late = late_is d values long turning in
     turning_next class is_class values a.at last places.0 (omega (arith, places, long)) c.item-early.result c.item-late.result early late e.fits f.fits v m n turning
     (subst (λ (w : ContainerWords). PutsItem a.at c.item-late.result w m) (f.held ∙ e.held) c.put_item.ensures.puts)
     c.put_item-2.ensures.puts
@@ -39,5 +80,5 @@ returns-clause-only c =
     let v = view c.args.pass.now in
     let u = view c.item-late.new.pass in
     let x = view c.put_item.new.pass in
-    let loads = loaded_put v u o (loaded_then v (view c.item-early.new.pass) u c.item-early.ensures.only c.item-late.ensures.only) in
-    put_then v x (view c.put_item-2.new.pass) o (put_then v u x o loads c.put_item.ensures.only) c.put_item-2.ensures.only
+    let loads = loaded_written o v u (loaded_then v (view c.item-early.new.pass) u c.item-early.ensures.only c.item-late.ensures.only) in
+    written_then o v x (view c.put_item-2.new.pass) (written_then o v u x loads c.put_item.ensures.only) c.put_item-2.ensures.only

@@ -1,13 +1,14 @@
 use Rattle.std.proofs.Common.{◌≡◌, ℕ, ◌/◌, refl, sym, ◌∙◌, subst, arith}
 use Rattle.ft_trace.specs.Addresses.{class_of}
-use Rattle.ft_trace.specs.Holds.{held_words}
+use Rattle.ft_trace.specs.Holds.{held_unboxed}
 use Rattle.ft_bank.specs.Passes.{shape_of, view}
 use Rattle.ft_bank.specs.TableNames.{table_id}
-use Rattle.ft_bank.proofs.KnownAfterWrites.{put_same, put_then}
+use Rattle.ft_bank.proofs.KnownAfterWrites.{written_then}
 use Rattle.ft_list.specs.ListItemWrites.{IsPutting, stored_item}
 use Rattle.ft_list.specs.Internal.Reversing.{IsTurning}
 use Rattle.ft_list.proofs.Cares.{table_class}
 use Rattle.ft_list.proofs.Turned.{turning_starts}
+use Rattle.ft_list.proofs.Written.{written_same}
 use Rattle.ft_list.proofs.turning.turn.Goals as goal
 
 pub loop-at-init : goal.loop-at-init
@@ -20,10 +21,10 @@ loop-at-init c =
       stack = refl;
       list = c.requires.list;
       early = c.requires.early;
-      only = put_same v a.o;
+      only = written_same a.o v;
       block = refl;
-      turning = λ values long putting. turning_starts class (table_class (shape_of a.bank.now) a.table c.requires.list.table_in) values (held_words a.o v).table
-          (subst (λ (n : ℕ). IsPutting class values 0 n (stored_item values) (held_words a.o v).table) (sym long) putting);
+      turning = λ values long putting. turning_starts class (table_class (shape_of a.bank.now) a.table c.requires.list.table_in) values (held_unboxed a.o v).table
+          (subst (λ (n : ℕ). IsPutting class values 0 n (stored_item values) (held_unboxed a.o v).table) (sym long) putting);
     }
 
 pub loop-at-preserved : goal.loop-at-preserved
@@ -39,7 +40,7 @@ loop-at-preserved c =
       stack = e.stack ∙ i.stack;
       list = e.list;
       early = e.only.work.committed a.o ∙ i.early;
-      only = put_then v x z a.o i.only e.only;
+      only = written_then a.o v x z i.only e.only;
       block = e.block ∙ i.block;
       turning = λ values long putting. e.turned values long (i.turning values long putting);
     }
@@ -48,4 +49,7 @@ pub returns-clause-turned : goal.returns-clause-turned
 returns-clause-turned c values long putting =
     let a = c.args in
     let at : c.loop-at.at ≡ a.count / 2 = let t = c.loop-at-test.false in let e = c.loop-at.auto.at-end in omega (arith, t, e) in
-    subst (λ (n : ℕ). IsTurning (class_of (table_id a.table)) values n (held_words a.o (view c.loop-at.pass)).table) at (c.loop-at.invariant.turning values long putting)
+    subst (λ (n : ℕ). IsTurning (class_of (table_id a.table)) values n (held_unboxed a.o (view c.loop-at.pass)).table) at (c.loop-at.invariant.turning values long putting)
+
+pub swap-requires-clause-before : goal.swap-requires-clause-before
+swap-requires-clause-before c = let b = c.requires.before in (b.0, b.1, c.loop-at.invariant.turning b.0 b.1 b.2)

@@ -6,12 +6,12 @@ use Rattle.ft_trace.specs.declared.Act.TheVariants.{PutBlock}
 use Rattle.ft_trace.specs.declared.View.{View}
 use Rattle.ft_trace.specs.Acts.{has_lock, is_writing}
 use Rattle.ft_trace.specs.Addresses.{class_of, slots}
-use Rattle.ft_trace.specs.Holds.{held_words, known_state}
+use Rattle.ft_trace.specs.Holds.{held_unboxed, known_state}
 use Rattle.ft_trace.proofs.Cases.{miss}
 use Rattle.ft_bank.specs.Passes.{shape_of, view}
 use Rattle.ft_bank.specs.TableNames.{table_id}
-use Rattle.ft_bank.specs.Whole.{OnlyPut}
-use Rattle.ft_bank.proofs.KnownAfterWrites.{put_by, put_then}
+use Rattle.ft_bank.specs.Whole.{OnlyWritten}
+use Rattle.ft_bank.proofs.KnownAfterWrites.{put_by, put_written, written_then}
 use Rattle.ft_list.specs.ListItemWrites.{IsPutting, known_items, stored_item}
 use Rattle.ft_list.specs.Internal.Moving.{IsMoving}
 use Rattle.ft_list.specs.Internal.Additions.{count_in, first_in, with_added}
@@ -19,6 +19,7 @@ use Rattle.ft_list.proofs.Cares.{table_class, writes_on}
 use Rattle.ft_list.proofs.Extending.{added_changing, added_head, added_long, added_on, addition_begun}
 use Rattle.ft_list.proofs.FinishedWrites.{root_stays}
 use Rattle.ft_list.proofs.WholeListWrites.{finishing, list_wrote, root_wrote}
+use Rattle.ft_search.proofs.Puts.{done_then, same_done}
 use Rattle.ft_list.proofs.writes.add_items.Goals as goal
 
 pub put_added-requires-clause-addition : goal.put_added-requires-clause-addition
@@ -28,7 +29,7 @@ put_added-requires-clause-addition c =
     let b = c.begin.ensures in
     let begun = b.did.1.1 in
     addition_begun (shape_of a.bank.now) a.o a.table v (view c.begin.new.pass) b.list a.count a.count (b.putting a.count a.count) b.few (λ p. ap (λ (z : View). known_state p z) begun) b.pass.1 c.begin.new.pass.possible
-    (λ p ne list. (ap (λ (z : View). held_words p z) begun, ap (λ (z : View). has_lock p z.log) begun, ap (λ (z : View). is_writing p z.log) begun ∙ miss a.o p true (is_writing p v.log) (λ e. ne (sym e))))
+    (λ p ne list. (ap (λ (z : View). held_unboxed p z) begun, ap (λ (z : View). has_lock p z.log) begun, ap (λ (z : View). is_writing p z.log) begun ∙ miss a.o p true (is_writing p v.log) (λ e. ne (sym e))))
     a.count a.addition c.requires.addition
 
 pub put_added-requires-clause-count : goal.put_added-requires-clause-count
@@ -40,7 +41,7 @@ put_added-requires-clause-before c =
     let items : known_items a.o (view c.begin.new.pass) ≡ known_items a.o (view a.pass.now) = ap (λ (z : View). known_items a.o z) c.begin.ensures.did.1.1 in
     let first = first_in a.addition a.count in
     let past = a.count + count_in a.addition in
-    subst (λ (l : List Value). IsPutting (class_of (table_id a.table)) l first past (stored_item l) (held_words a.o (view c.begin.new.pass)).table) (sym items) (c.begin.ensures.putting first past)
+    subst (λ (l : List Value). IsPutting (class_of (table_id a.table)) l first past (stored_item l) (held_unboxed a.o (view c.begin.new.pass)).table) (sym items) (c.begin.ensures.putting first past)
 
 pub finish-requires-clause-may : goal.finish-requires-clause-may
 finish-requires-clause-may c =
@@ -62,18 +63,18 @@ finish-requires-clause-may c =
     let begun = b.did.1.1 in
     let items : known_items a.o s ≡ values = ap (λ (z : View). known_items a.o z) begun in
     let after : with_added a.addition s (known_items a.o s) ≡ news = ap (λ (l : List Value). with_added a.addition s l) items ∙ added_on a.addition v s (λ p. ap (λ (z : View). known_state p z) begun) values in
-    let moved : IsMoving class values news first total total (held_words a.o y).table =
-    subst (λ (x : List Value × List Value × ℕ × ℕ). IsMoving class x.0 x.1 x.2 (a.count + x.3) (a.count + x.3) (held_words a.o y).table) (λ d. (items d, after d, sym c.first_place.ensures d, counted d)) e.moved in
+    let moved : IsMoving class values news first total total (held_unboxed a.o y).table =
+    subst (λ (x : List Value × List Value × ℕ × ℕ). IsMoving class x.0 x.1 x.2 (a.count + x.3) (a.count + x.3) (held_unboxed a.o y).table) (λ d. (items d, after d, sym c.first_place.ensures d, counted d)) e.moved in
     let long : length news ≡ total = added_long k a.count a.addition v values c.requires.addition c.requires.count ∙ ap (λ (n : ℕ). a.count + n) counted in
     let n = c.requires.count in
     let short : length values ≤ total = omega (arith, n) in
     let room : total ≤ slots class = subst (λ (n : ℕ). a.count + n ≤ slots class) counted c.requires.room in
-    let held_is = c.put_block.ensures.held in
-    let last = put_by (PutBlock a.o 1 total) y u a.o tt c.put_block.ensures.did.1 c.put_block.ensures.keeps in
-    let only : OnlyPut a.o s u = put_then s y u a.o e.only last in
-    let changing = added_changing class is_class values news first total (held_words a.o y) (held_words a.o u) moved held_is short long room in
-    let head = added_head class is_class values news first total (held_words a.o y) (held_words a.o u) moved held_is short long room (subst (λ (l : List ℕ). IsBlock l (Some class) (length values) 0 0) (sym e.block) b.head) in
-    let list = writes_on k a.o a.table y u last (root_stays _ _ _ _ (omega arith) held_is) e.list in
+    let held_is = c.put_block.ensures.unboxed in
+    let last = put_by (PutBlock a.o 1 total) y u a.o tt c.put_block.ensures.did.1 c.put_block.ensures.keeps c.put_block.ensures.moves in
+    let only : OnlyWritten a.o s u = written_then a.o s y u e.only (put_written a.o y u last) in
+    let changing = added_changing class is_class values news first total (held_unboxed a.o y) (held_unboxed a.o u) moved held_is short long room in
+    let head = added_head class is_class values news first total (held_unboxed a.o y) (held_unboxed a.o u) moved held_is short long room (subst (λ (l : List ℕ). IsBlock l (Some class) (length values) 0 0) (sym e.block) b.head) in
+    let list = writes_on k a.o a.table y u e.pass.1 last.work c.put_block.ensures.boxes.references last.made (root_stays _ _ _ _ (omega arith) held_is) e.list in
     let call_is = c.requires.call in
     finishing k a.o a.table v s u b.did.0 c.requires.may begun only first total call_is.0 a.called.now reply.Done values news call_is.1 call_is.2 b.content b.table list (ap (λ (z : View). z.shape) c.put_block.ensures.did.1 ∙ e.pass.1) changing head
 
@@ -86,10 +87,10 @@ returns-clause-wrote c =
     let u = view c.put_block.new.pass in
     let d = c.begin.ensures.did in
     let e = c.put_added.ensures in
-    let last = put_by (PutBlock a.o 1 (a.count + c.added_count.result)) y u a.o tt c.put_block.ensures.did.1 c.put_block.ensures.keeps in
+    let last = put_by (PutBlock a.o 1 (a.count + c.added_count.result)) y u a.o tt c.put_block.ensures.did.1 c.put_block.ensures.keeps c.put_block.ensures.moves in
     let call_is = c.requires.call in
-    list_wrote k a.o a.table (view a.pass.now) s u d.0 c.requires.may d.1.1 (put_then s y u a.o e.only last) call_is.0 a.called.now reply.Done c.finish.result (view c.finish.new.pass) call_is.1 call_is.2.write.changing c.finish.ensures.ends
-    ((root_stays _ _ _ _ (omega arith) c.put_block.ensures.held) ∙ (e.list.root ∙ sym c.requires.table.root))
+    list_wrote k a.o a.table (view a.pass.now) s u d.0 c.requires.may d.1.1 (written_then a.o s y u e.only (put_written a.o y u last)) call_is.0 a.called.now reply.Done c.finish.result (view c.finish.new.pass) call_is.1 call_is.2.write.changing c.finish.ensures.ends
+    ((root_stays _ _ _ _ (omega arith) c.put_block.ensures.unboxed) ∙ (e.list.root ∙ sym c.requires.table.root))
 
 pub returns-clause-root : goal.returns-clause-root
 returns-clause-root c =
@@ -100,7 +101,18 @@ returns-clause-root c =
     let u = view c.put_block.new.pass in
     let d = c.begin.ensures.did in
     let e = c.put_added.ensures in
-    let last = put_by (PutBlock a.o 1 (a.count + c.added_count.result)) y u a.o tt c.put_block.ensures.did.1 c.put_block.ensures.keeps in
+    let last = put_by (PutBlock a.o 1 (a.count + c.added_count.result)) y u a.o tt c.put_block.ensures.did.1 c.put_block.ensures.keeps c.put_block.ensures.moves in
     let call_is = c.requires.call in
-    root_wrote k a.o a.table (view a.pass.now) s u d.0 c.requires.may d.1.1 (put_then s y u a.o e.only last) call_is.0 a.called.now reply.Done c.finish.result (view c.finish.new.pass) call_is.1 call_is.2.write.changing c.finish.ensures.ends
-    ((root_stays _ _ _ _ (omega arith) c.put_block.ensures.held) ∙ (e.list.root ∙ sym c.requires.table.root))
+    root_wrote k a.o a.table (view a.pass.now) s u d.0 c.requires.may d.1.1 (written_then a.o s y u e.only (put_written a.o y u last)) call_is.0 a.called.now reply.Done c.finish.result (view c.finish.new.pass) call_is.1 call_is.2.write.changing c.finish.ensures.ends
+    ((root_stays _ _ _ _ (omega arith) c.put_block.ensures.unboxed) ∙ (e.list.root ∙ sym c.requires.table.root))
+
+pub returns-clause-references : goal.returns-clause-references
+returns-clause-references c =
+    let a = c.args in
+    let k = shape_of a.bank.now in
+    let y = view c.put_added.new.pass in
+    let u = view c.put_block.new.pass in
+    let b = c.put_block.ensures in
+    let done = done_then k y u c.put_added.ensures.pass.1 (ap (λ (z : View). z.shape) b.did.1) b.boxes.references b.boxes.made c.put_added.ensures.list.boxes in
+    let same = same_done k (view a.pass.now) u c.requires.pass.1 (ap (λ (z : View). z.shape) b.did.1 ∙ c.put_added.ensures.pass.1) c.requires.may.boxes done in
+    λ n. c.finish.ensures.references n ∙ same n

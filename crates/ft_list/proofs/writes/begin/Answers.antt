@@ -5,7 +5,7 @@ use Rattle.ft_trace.specs.declared.Shape.{Shape}
 use Rattle.ft_trace.specs.declared.View.{View}
 use Rattle.ft_trace.specs.Addresses.{container_count, class_of}
 use Rattle.ft_trace.specs.ContainerStates.{kind_in}
-use Rattle.ft_trace.specs.Holds.{held_words}
+use Rattle.ft_trace.specs.Holds.{held_unboxed}
 use Rattle.ft_bank.specs.Passes.{shape_of, view}
 use Rattle.ft_bank.specs.TableNames.{table_id}
 use Rattle.ft_list.specs.ListItemWrites.{IsPutting, known_items, stored_item}
@@ -37,7 +37,7 @@ returns-clause-head c =
     let is_kind : kind_in v.shape.starts a.o ≡ kind.List = ap (λ (z : Shape). kind_in z.starts a.o) c.requires.pass.1 ∙ c.requires.may.kind in
     let content = list_content v a.o a.pass.now.possible c.requires.may.locked is_kind in
     let words = (list_known (shape_of a.bank.now).texts v a.o (table_id a.table) content c.requires.may.stands c.requires.table.root).0 in
-    subst (λ (z : View). IsBlock (held_words a.o z).block (Some (class_of (table_id a.table))) (length (known_items a.o v)) 0 0) (sym c.start_write.ensures.1) words.head
+    subst (λ (z : View). IsBlock (held_unboxed a.o z).block (Some (class_of (table_id a.table))) (length (known_items a.o v)) 0 0) (sym c.start_write.ensures.1) words.head
 
 pub returns-clause-putting : goal.returns-clause-putting
 returns-clause-putting c first past =
@@ -48,8 +48,8 @@ returns-clause-putting c first past =
     let low : a.o < container_count v.shape = subst (λ (z : Shape). a.o < container_count z) (sym c.requires.pass.1) c.requires.may.container in
     let content = list_content v a.o a.pass.now.possible c.requires.may.locked is_kind in
     let words = (list_known (shape_of a.bank.now).texts v a.o (table_id a.table) content c.requires.may.stands c.requires.table.root).0 in
-    subst (λ (z : View). IsPutting class (known_items a.o v) first past (stored_item (known_items a.o v)) (held_words a.o z).table) (sym c.start_write.ensures.1)
-    (putting_starts class (table_class (shape_of a.bank.now) a.table c.requires.table.table_in) (known_items a.o v) (held_words a.o v).table first past words.table
+    subst (λ (z : View). IsPutting class (known_items a.o v) first past (stored_item (known_items a.o v)) (held_unboxed a.o z).table) (sym c.start_write.ensures.1)
+    (putting_starts class (table_class (shape_of a.bank.now) a.table c.requires.table.table_in) (known_items a.o v) (held_unboxed a.o v).table first past words.table
     (list_shut v a.o (table_id a.table) a.pass.now.possible low c.requires.may.locked (c.requires.may.even a.o) is_kind c.requires.table.root))
 
 pub returns-clause-few : goal.returns-clause-few

@@ -2,11 +2,12 @@ use Rattle.std.proofs.Common.{◌+◌, ◌≤◌, length, arith}
 use Rattle.std.specs.List.{insert}
 use Rattle.ft_layout.specs.declared.slot.Stored.TheVariants.{Plain}
 use Rattle.ft_trace.specs.Addresses.{class_of}
-use Rattle.ft_trace.specs.Holds.{held_words}
+use Rattle.ft_trace.specs.Holds.{held_unboxed}
 use Rattle.ft_bank.specs.Passes.{shape_of, view}
 use Rattle.ft_bank.specs.TableNames.{table_id}
 use Rattle.ft_list.proofs.Cares.{table_class}
 use Rattle.ft_list.proofs.ItemWordsPut.{moving_starts, moving_next, insert_low, insert_here}
+use Rattle.ft_trace.proofs.ValuePlaces.{plain_kind}
 use Rattle.ft_list.proofs.writes.put_last.Goals as goal
 
 pub returns-clause-moved : goal.returns-clause-moved
@@ -14,8 +15,11 @@ returns-clause-moved c values long putting =
     let a = c.args in
     let class = class_of (table_id a.table) in
     let is_class = table_class (shape_of a.bank.now) a.table c.requires.list.table_in in
-    let before = held_words a.o (view a.pass.now) in
+    let before = held_unboxed a.o (view a.pass.now) in
     let news = insert values a.count a.value in
     let low : a.count ≤ length values = omega (arith, long) in
     let starts = moving_starts class is_class values news a.count (a.count + 1) a.count before.table putting (λ q less. insert_low values a.count a.value q low less) in
-    moving_next class is_class values news a.count (a.count + 1) a.count before (held_words a.o (view c.put_item.new.pass)) (Plain a.value) starts c.put_item.ensures.puts c.requires.value (insert_here values a.count a.value low) (omega arith) (omega arith)
+    moving_next class is_class values news a.count (a.count + 1) a.count before (held_unboxed a.o (view c.put_item.new.pass)) (Plain a.value) starts c.put_item.ensures.puts c.requires.value (insert_here values a.count a.value low) (omega arith) (omega arith)
+
+pub put_item-requires-clause-plain : goal.put_item-requires-clause-plain
+put_item-requires-clause-plain c = plain_kind c.args.value

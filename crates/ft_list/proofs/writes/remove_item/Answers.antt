@@ -6,17 +6,18 @@ use Rattle.ft_trace.specs.declared.Act.TheVariants.{PutBlock}
 use Rattle.ft_trace.specs.declared.View.{View}
 use Rattle.ft_trace.specs.Addresses.{class_of}
 use Rattle.ft_trace.specs.Pictures.{ContainerWords}
-use Rattle.ft_trace.specs.Holds.{held_words}
+use Rattle.ft_trace.specs.Holds.{held_unboxed}
 use Rattle.ft_bank.specs.Passes.{shape_of, view}
 use Rattle.ft_bank.specs.TableNames.{table_id}
-use Rattle.ft_bank.specs.Whole.{OnlyPut}
-use Rattle.ft_bank.proofs.KnownAfterWrites.{put_by, put_then}
+use Rattle.ft_bank.specs.Whole.{OnlyWritten}
+use Rattle.ft_bank.proofs.KnownAfterWrites.{put_by, put_written, written_then}
 use Rattle.ft_list.specs.ListItemWrites.{known_items}
 use Rattle.ft_list.specs.Internal.Moving.{IsMoving}
 use Rattle.ft_list.proofs.Cares.{table_class, writes_on}
 use Rattle.ft_list.proofs.FinishedWrites.{with_count, root_stays}
 use Rattle.ft_list.proofs.ItemWordsPut.{stored_none, moving_ends, long_remove}
 use Rattle.ft_list.proofs.WholeListWrites.{finishing, list_wrote, root_wrote}
+use Rattle.ft_search.proofs.Puts.{done_then, same_done}
 use Rattle.ft_list.proofs.writes.remove_item.Goals as goal
 
 pub shift_down-requires-clause-before : goal.shift_down-requires-clause-before
@@ -40,17 +41,17 @@ finish-requires-clause-may c =
     let place = c.requires.place in
     let few = b.few in
     let long : length news ≡ a.count - 1 = let l = long_remove values a.place (omega (arith, count, place)) in omega (arith, l, count) in
-    let held_is = c.put_block.ensures.held in
-    let last = put_by (PutBlock a.o 1 (a.count - 1)) y u a.o tt c.put_block.ensures.did.1 c.put_block.ensures.keeps in
-    let only : OnlyPut a.o s u = put_then s y u a.o e.only last in
+    let held_is = c.put_block.ensures.unboxed in
+    let last = put_by (PutBlock a.o 1 (a.count - 1)) y u a.o tt c.put_block.ensures.did.1 c.put_block.ensures.keeps c.put_block.ensures.moves in
+    let only : OnlyWritten a.o s u = written_then a.o s y u e.only (put_written a.o y u last) in
     let moving = subst (λ (w : ContainerWords). IsMoving class values news a.place (a.count) (a.count) w.table) (sym held_is) (e.moved values count (b.putting a.place (a.count))) in
-    let changing = moving_ends class is_class values news a.place (a.count) (a.count) (held_words a.o u).table moving (omega (arith, long, few, count))
+    let changing = moving_ends class is_class values news a.place (a.count) (a.count) (held_unboxed a.o u).table moving (omega (arith, long, few, count))
     (λ p more. stored_none values p (omega (arith, more, count)) ∙ sym (stored_none news p (omega (arith, more, long, count, place)))) in
-    let block : (held_words a.o y).block ≡ (held_words a.o s).block = e.block in
+    let block : (held_unboxed a.o y).block ≡ (held_unboxed a.o s).block = e.block in
     let head = subst (λ (w : ContainerWords). IsBlock w.block (Some class) (length news) 0 0) (sym held_is)
-    (subst (λ (n : ℕ). IsBlock (slice_set (held_words a.o y).block 1 (a.count - 1)) (Some class) n 0 0) (sym long)
-    (with_count (held_words a.o y).block (Some class) (length values) (a.count - 1) (subst (λ (l : List ℕ). IsBlock l (Some class) (length values) 0 0) (sym block) b.head))) in
-    let list = writes_on k a.o a.table y u last (root_stays _ _ _ _ (omega arith) c.put_block.ensures.held) e.list in
+    (subst (λ (n : ℕ). IsBlock (slice_set (held_unboxed a.o y).block 1 (a.count - 1)) (Some class) n 0 0) (sym long)
+    (with_count (held_unboxed a.o y).block (Some class) (length values) (a.count - 1) (subst (λ (l : List ℕ). IsBlock l (Some class) (length values) 0 0) (sym block) b.head))) in
+    let list = writes_on k a.o a.table y u e.pass.1 last.work c.put_block.ensures.boxes.references last.made (root_stays _ _ _ _ (omega arith) c.put_block.ensures.unboxed) e.list in
     let d = b.did in
     let call_is = c.requires.call in
     finishing k a.o a.table v s u d.0 c.requires.may d.1.1 only a.place (a.count) call_is.0 a.called.now a.said.now values news call_is.1 call_is.2 b.content b.table list (ap (λ (z : View). z.shape) c.put_block.ensures.did.1 ∙ e.pass.1) changing head
@@ -65,10 +66,10 @@ returns-clause-wrote c =
     let u = view c.put_block.new.pass in
     let d = c.begin.ensures.did in
     let e = c.shift_down.ensures in
-    let last = put_by (PutBlock a.o 1 (a.count - 1)) y u a.o tt c.put_block.ensures.did.1 c.put_block.ensures.keeps in
+    let last = put_by (PutBlock a.o 1 (a.count - 1)) y u a.o tt c.put_block.ensures.did.1 c.put_block.ensures.keeps c.put_block.ensures.moves in
     let call_is = c.requires.call in
-    list_wrote k a.o a.table v s u d.0 c.requires.may d.1.1 (put_then s y u a.o e.only last) call_is.0 a.called.now a.said.now c.finish.result (view c.finish.new.pass) call_is.1 call_is.2.write.changing c.finish.ensures.ends
-    ((root_stays _ _ _ _ (omega arith) c.put_block.ensures.held) ∙ (e.list.root ∙ sym c.requires.table.root))
+    list_wrote k a.o a.table v s u d.0 c.requires.may d.1.1 (written_then a.o s y u e.only (put_written a.o y u last)) call_is.0 a.called.now a.said.now c.finish.result (view c.finish.new.pass) call_is.1 call_is.2.write.changing c.finish.ensures.ends
+    ((root_stays _ _ _ _ (omega arith) c.put_block.ensures.unboxed) ∙ (e.list.root ∙ sym c.requires.table.root))
 
 pub returns-clause-root : goal.returns-clause-root
 returns-clause-root c =
@@ -80,7 +81,18 @@ returns-clause-root c =
     let u = view c.put_block.new.pass in
     let d = c.begin.ensures.did in
     let e = c.shift_down.ensures in
-    let last = put_by (PutBlock a.o 1 (a.count - 1)) y u a.o tt c.put_block.ensures.did.1 c.put_block.ensures.keeps in
+    let last = put_by (PutBlock a.o 1 (a.count - 1)) y u a.o tt c.put_block.ensures.did.1 c.put_block.ensures.keeps c.put_block.ensures.moves in
     let call_is = c.requires.call in
-    root_wrote k a.o a.table v s u d.0 c.requires.may d.1.1 (put_then s y u a.o e.only last) call_is.0 a.called.now a.said.now c.finish.result (view c.finish.new.pass) call_is.1 call_is.2.write.changing c.finish.ensures.ends
-    ((root_stays _ _ _ _ (omega arith) c.put_block.ensures.held) ∙ (e.list.root ∙ sym c.requires.table.root))
+    root_wrote k a.o a.table v s u d.0 c.requires.may d.1.1 (written_then a.o s y u e.only (put_written a.o y u last)) call_is.0 a.called.now a.said.now c.finish.result (view c.finish.new.pass) call_is.1 call_is.2.write.changing c.finish.ensures.ends
+    ((root_stays _ _ _ _ (omega arith) c.put_block.ensures.unboxed) ∙ (e.list.root ∙ sym c.requires.table.root))
+
+pub returns-clause-references : goal.returns-clause-references
+returns-clause-references c =
+    let a = c.args in
+    let k = shape_of a.bank.now in
+    let y = view c.shift_down.new.pass in
+    let u = view c.put_block.new.pass in
+    let b = c.put_block.ensures in
+    let done = done_then k y u c.shift_down.ensures.pass.1 (ap (λ (z : View). z.shape) b.did.1) b.boxes.references b.boxes.made c.shift_down.ensures.list.boxes in
+    let same = same_done k (view a.pass.now) u c.requires.pass.1 (ap (λ (z : View). z.shape) b.did.1 ∙ c.shift_down.ensures.pass.1) c.requires.may.boxes done in
+    λ n. c.finish.ensures.references n ∙ same n

@@ -4,11 +4,11 @@ use Rattle.ft_model.specs.declared.data.Value.{Value}
 use Rattle.ft_layout.specs.Words.{FitsStored}
 use Rattle.ft_trace.specs.Acts.{has_committed}
 use Rattle.ft_trace.specs.Addresses.{class_of}
-use Rattle.ft_trace.specs.Holds.{held_words}
+use Rattle.ft_trace.specs.Holds.{held_unboxed}
 use Rattle.ft_bank.specs.Passes.{shape_of, view, IsPassOf}
 use Rattle.ft_bank.specs.PassSections.{stack_of}
 use Rattle.ft_bank.specs.TableNames.{table_id}
-use Rattle.ft_bank.specs.Whole.{OnlyPut}
+use Rattle.ft_bank.specs.Whole.{OnlyWritten}
 use Rattle.ft_list.specs.ListItemWrites.{WritesList, IsPutting, stored_item}
 use Rattle.ft_list.specs.Internal.Moving.{IsMoving}
 use Rattle.ft_list.proofs.writes.shift_up.Given as goal
@@ -20,12 +20,12 @@ invariant-loop-at l =
       stack : stack_of l.pass ≡ stack_of l.initial.pass;
       list : WritesList (shape_of l.bank) l.o l.table (view l.pass);
       early : has_committed l.o (view l.pass).log ≡ false;
-      only : OnlyPut l.o (view l.initial.pass) (view l.pass);
-      block : (held_words l.o (view l.pass)).block ≡ (held_words l.o (view l.initial.pass)).block;
+      only : OnlyWritten l.o (view l.initial.pass) (view l.pass);
+      block : (held_unboxed l.o (view l.pass)).block ≡ (held_unboxed l.o (view l.initial.pass)).block;
       from : l.place ≤ l.at;
       fits : FitsStored l.carried;
       moving : (values : List Value) → length values ≡ l.count
-          → IsPutting (class_of (table_id l.table)) values l.place (l.count + 1) (stored_item values) (held_words l.o (view l.initial.pass)).table
+          → IsPutting (class_of (table_id l.table)) values l.place (l.count + 1) (stored_item values) (held_unboxed l.o (view l.initial.pass)).table
           → (l.carried ≡ stored_item (insert values l.place l.fn.value) l.at)
-          × IsMoving (class_of (table_id l.table)) values (insert values l.place l.fn.value) l.place (l.count + 1) l.at (held_words l.o (view l.pass)).table;
+          × IsMoving (class_of (table_id l.table)) values (insert values l.place l.fn.value) l.place (l.count + 1) l.at (held_unboxed l.o (view l.pass)).table;
     }

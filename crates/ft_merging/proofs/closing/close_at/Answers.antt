@@ -1,12 +1,12 @@
 use Rattle.std.proofs.Common.{◌≡◌, ◌%◌, sym, ap, ◌∙◌, arith}
-use Rattle.ft_trace.specs.Holds.{held_words}
+use Rattle.ft_trace.specs.Holds.{held_unboxed}
 use Rattle.ft_trace.specs.Pictures.{ContainerWords}
 use Rattle.ft_trace.proofs.DictWrites.{EntryVersionsChangeNothing}
 use Rattle.ft_bank.specs.Passes.{shape_of, view}
 use Rattle.ft_bank.specs.TableNames.{table_id}
-use Rattle.ft_bank.proofs.KnownAfterWrites.{loaded_held, loaded_put, put_then}
+use Rattle.ft_bank.proofs.KnownAfterWrites.{loaded_put, put_then}
 use Rattle.ft_merging.specs.Internal.EntriesAtOnce.{IsClosing, version_of}
-use Rattle.ft_merging.proofs.Ending.{Laws, closing_care, closing_loaded, closing_raised}
+use Rattle.ft_merging.proofs.Ending.{Laws, closing_care, closing_loaded, closing_raised, read_same}
 use Rattle.ft_merging.proofs.closing.close_at.Goals as goal
 use Rattle.ft_merging.proofs.closing.close_at.Goals.{After-word_of-version}
 
@@ -21,12 +21,14 @@ versions c walk room texts mask used words place version within table =
 loaded : (c : After-word_of-version) → IsClosing (shape_of c.args.bank.now) c.args.o c.args.table c.args.place c.args.fill (view c.word_of-version.new.pass)
 loaded c =
     let a = c.args in
-    closing_loaded (shape_of a.bank.now) a.o a.table a.place a.fill (view a.pass.now) (view c.word_of-version.new.pass) c.word_of-version.ensures.only c.requires.closing
+    closing_loaded (shape_of a.bank.now) a.o a.table a.place a.fill (view a.pass.now) (view c.word_of-version.new.pass) c.requires.pass.1 c.word_of-version.ensures.only c.requires.closing
 
-found : (c : After-word_of-version) → c.word_of-version.result ≡ version_of (table_id c.args.table) (held_words c.args.o (view c.word_of-version.new.pass)) c.args.place
+found : (c : After-word_of-version) → c.word_of-version.result ≡ version_of (table_id c.args.table) (held_unboxed c.args.o (view c.word_of-version.new.pass)) c.args.place
 found c =
     let a = c.args in
-    c.word_of-version.ensures.found ∙ sym (ap (λ (y : ContainerWords). version_of (table_id a.table) y a.place) (loaded_held (view a.pass.now) (view c.word_of-version.new.pass) a.o c.word_of-version.ensures.only))
+    let w = c.requires.closing.writes in
+    let same = read_same (shape_of a.bank.now) a.o (view a.pass.now) (view c.word_of-version.new.pass) c.requires.pass.1 w.container w.locked c.word_of-version.ensures.only in
+    c.word_of-version.ensures.found ∙ sym (ap (λ (y : ContainerWords). version_of (table_id a.table) y a.place) same)
 
 pub word_of-version-requires-clause-container : goal.word_of-version-requires-clause-container
 word_of-version-requires-clause-container c = c.requires.closing.writes.container
@@ -40,7 +42,7 @@ word_of-version-requires-clause-table c = c.requires.closing.writes.table_in
 pub word_of-version-requires-clause-knows : goal.word_of-version-requires-clause-knows
 word_of-version-requires-clause-knows c = (c.requires.closing.writes.locked, c.requires.closing.writes.root)
 
-odd : (c : After-word_of-version) → c.word_of-version.result % 2 ≡ 1 → version_of (table_id c.args.table) (held_words c.args.o (view c.word_of-version.new.pass)) c.args.place % 2 ≡ 1
+odd : (c : After-word_of-version) → c.word_of-version.result % 2 ≡ 1 → version_of (table_id c.args.table) (held_unboxed c.args.o (view c.word_of-version.new.pass)) c.args.place % 2 ≡ 1
 odd c is = let f = found c in omega (arith, f, is)
 
 pub raise_version-requires-clause-care : goal.raise_version-requires-clause-care
@@ -54,7 +56,7 @@ returns-then-version-eq1-clause-closing c =
     let a = c.args in
     let d = (goal.at.returns-then-version-eq1-clause-closing c).After-word_of-version in
     let e = c.raise_version.ensures in
-    closing_raised (laws d) (shape_of a.bank.now) a.o a.table a.place a.fill (view c.word_of-version.new.pass) c.word_of-version.ensures.pass.1 c.word_of-version.new.pass.possible c.requires.place (loaded d) (versions d) (view c.raise_version.new.pass) e.only e.words (odd d c.if-version-eq1.true)
+    closing_raised (laws d) (shape_of a.bank.now) a.o a.table a.place a.fill (view c.word_of-version.new.pass) c.word_of-version.ensures.pass.1 c.word_of-version.new.pass.possible c.requires.place (loaded d) (versions d) (view c.raise_version.new.pass) e.only e.references e.words (odd d c.if-version-eq1.true)
 
 pub returns-then-version-eq1-clause-only : goal.returns-then-version-eq1-clause-only
 returns-then-version-eq1-clause-only c =

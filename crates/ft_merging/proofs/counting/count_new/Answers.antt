@@ -11,9 +11,10 @@ use Rattle.ft_trace.specs.Pictures.{ContainerWords}
 use Rattle.ft_trace.specs.ContainerStates.{ContainerState}
 use Rattle.ft_bank.specs.Passes.{shape_of, view}
 use Rattle.ft_bank.specs.TableNames.{table_id}
-use Rattle.ft_bank.proofs.KnownAfterWrites.{loaded_held, loaded_then, work_knows}
+use Rattle.ft_bank.proofs.KnownAfterWrites.{loaded_then, work_knows}
 use Rattle.ft_new_keys.specs.KeyGrowth.{holds}
 use Rattle.ft_merging.specs.Internal.JoiningSteps.{lacking}
+use Rattle.ft_merging.proofs.Ending.{read_same}
 use Rattle.ft_merging.proofs.counting.count_new.Goals as goal
 use Rattle.ft_merging.proofs.counting.count_new.Goals.{After-is_new_at, then-is_new_at, else-is_new_at}
 
@@ -37,7 +38,7 @@ loop-place-preserved c =
     ] in
     let few : one_if c.is_new_at.result ≤ 1 = at_most c.is_new_at.result in
     let low = i.few in
-    let other = loaded_held v u a.t i.only in
+    let other = read_same (shape_of a.bank.now) a.t v u c.requires.pass.1 c.requires.other.container c.requires.other.locked i.only in
     let mine = work_knows v u a.o i.only.work in
     let fill = work_knows v u a.t i.only.work in
     record {

@@ -6,7 +6,7 @@ use Rattle.ft_layout.specs.Containers.{class_mask}
 use Rattle.ft_layout.specs.Tables.{UsedEntry, is_live, slot_of}
 use Rattle.ft_keys.specs.Ways.{IsTableOf}
 use Rattle.ft_trace.specs.Addresses.{class_of, slots}
-use Rattle.ft_trace.specs.Holds.{held_words, known_state}
+use Rattle.ft_trace.specs.Holds.{held_unboxed, known_state}
 use Rattle.ft_trace.specs.Kinds.{rows}
 use Rattle.ft_trace.specs.Pictures.{entry_field}
 use Rattle.ft_trace.specs.ContainerStates.{ContainerState}
@@ -27,13 +27,13 @@ source c =
     source_known (record { pairs = c.used_entries_follow_a_dict.ensures.first; elements = c.used_entries_follow_a_set.ensures.first }) (shape_of a.bank.now) a.t a.table (view a.pass.now) c.requires.pass.1 a.pass.now.possible c.requires.other a.way c.requires.other_way
 
 -- what was found at the place
-found : (c : After-pair_at) (used : List UsedEntry) → IsTableOf c.args.way (shape_of c.args.bank.now).texts (class_mask (class_of (table_id c.args.table))) used (0 ∷ 0 ∷ (held_words c.args.t (view c.args.pass.now)).table) → length used ≡ (known_state c.args.t (view c.args.pass.now)).table.fill → (any : UsedEntry)
+found : (c : After-pair_at) (used : List UsedEntry) → IsTableOf c.args.way (shape_of c.args.bank.now).texts (class_mask (class_of (table_id c.args.table))) used (0 ∷ 0 ∷ (held_unboxed c.args.t (view c.args.pass.now)).table) → length used ≡ (known_state c.args.t (view c.args.pass.now)).table.fill → (any : UsedEntry)
     → c.pair_at.result ≡ pair_in (slot_of (shape_of c.args.bank.now).texts (slice_index_or used c.args.place any))
 found c used says filled any =
     let a = c.args in
     let low = c.requires.place in
     c.pair_at.ensures.pair (slot_of (shape_of a.bank.now).texts (slice_index_or used a.place any))
-    (entry_used a.way (shape_of a.bank.now).texts (shape_of a.bank.now) a.table (c.requires.other.table_in a.table refl) used (held_words a.t (view a.pass.now)).table says a.place any (omega (arith, low, filled)))
+    (entry_used a.way (shape_of a.bank.now).texts (shape_of a.bank.now) a.table (c.requires.other.table_in a.table refl) used (held_unboxed a.t (view a.pass.now)).table says a.place any (omega (arith, low, filled)))
 
 pub pair_at-requires-clause-table : goal.pair_at-requires-clause-table
 pair_at-requires-clause-table c = c.requires.other.table_in c.args.table refl
@@ -65,23 +65,23 @@ seek_by-requires-clause-hash c =
     let few = s.filled in
     let low = c.requires.place in
     let k = shape_of a.bank.now in
-    let entry = entry_used a.way k.texts k a.table (c.requires.other.table_in a.table refl) s.used (held_words a.t (view a.pass.now)).table s.table_is a.place any_entry (omega (arith, low, few)) in
-    (pair_used k.texts e c.pair_at.result (found at.After-pair_at s.used s.table_is s.filled any_entry) (entry_field (slots (class_of (table_id a.table))) (held_words a.t (view a.pass.now)).table a.place) entry c.in-Some.pair c.in-Some.is).2
+    let entry = entry_used a.way k.texts k a.table (c.requires.other.table_in a.table refl) s.used (held_unboxed a.t (view a.pass.now)).table s.table_is a.place any_entry (omega (arith, low, few)) in
+    (pair_used k.texts e c.pair_at.result (found at.After-pair_at s.used s.table_is s.filled any_entry) (entry_field (slots (class_of (table_id a.table))) (held_unboxed a.t (view a.pass.now)).table a.place) entry c.in-Some.pair c.in-Some.is).2
 
 -- the pass knows the same of the container
 same : (c : After-seek_by) → known_state c.args.o (view c.seek_by.new.pass) ≡ known_state c.args.o (view c.args.pass.now)
 same c = work_knows (view c.args.pass.now) (view c.seek_by.new.pass) c.args.o (loaded_then (view c.args.pass.now) (view c.pair_at.new.pass) (view c.seek_by.new.pass) c.pair_at.ensures.only c.seek_by.ensures.keeps).work
 
 -- whether the entry has a new key, where it is known of the key
-stated : (c : After-seek_by) (b : Bool) → holds (known_state c.args.o (view c.seek_by.new.pass)).content c.in-Some.pair.key ≡ b → (used : List UsedEntry) → IsTableOf c.args.way (shape_of c.args.bank.now).texts (class_mask (class_of (table_id c.args.table))) used (0 ∷ 0 ∷ (held_words c.args.t (view c.args.pass.now)).table) → length used ≡ (known_state c.args.t (view c.args.pass.now)).table.fill → (any : UsedEntry)
+stated : (c : After-seek_by) (b : Bool) → holds (known_state c.args.o (view c.seek_by.new.pass)).content c.in-Some.pair.key ≡ b → (used : List UsedEntry) → IsTableOf c.args.way (shape_of c.args.bank.now).texts (class_mask (class_of (table_id c.args.table))) used (0 ∷ 0 ∷ (held_unboxed c.args.t (view c.args.pass.now)).table) → length used ≡ (known_state c.args.t (view c.args.pass.now)).table.fill → (any : UsedEntry)
     → c.pair_at.result ≡ pair_in (slot_of (shape_of c.args.bank.now).texts (slice_index_or used c.args.place any)) → not b ≡ (is_live (slice_index_or used c.args.place any) && not (holds (known_state c.args.o (view c.args.pass.now)).content (slice_index_or used c.args.place any).key))
 stated c b has used says filled any is =
     let a = c.args in
     let k = shape_of a.bank.now in
     let low = c.requires.place in
     let e = slice_index_or used a.place any in
-    let entry = entry_used a.way k.texts k a.table (c.requires.other.table_in a.table refl) used (held_words a.t (view a.pass.now)).table says a.place any (omega (arith, low, filled)) in
-    let p = pair_used k.texts e c.pair_at.result is (entry_field (slots (class_of (table_id a.table))) (held_words a.t (view a.pass.now)).table a.place) entry c.in-Some.pair c.in-Some.is in
+    let entry = entry_used a.way k.texts k a.table (c.requires.other.table_in a.table refl) used (held_unboxed a.t (view a.pass.now)).table says a.place any (omega (arith, low, filled)) in
+    let p = pair_used k.texts e c.pair_at.result is (entry_field (slots (class_of (table_id a.table))) (held_unboxed a.t (view a.pass.now)).table a.place) entry c.in-Some.pair c.in-Some.is in
     new_is (known_state a.o (view a.pass.now)).content e c.in-Some.pair.key c.in-Some.pair.value b p.0 p.1 (sym (ap (λ (z : ContainerState). holds z.content c.in-Some.pair.key) (same c)) ∙ has)
 
 pub returns-in-At-clause-new : goal.returns-in-At-clause-new

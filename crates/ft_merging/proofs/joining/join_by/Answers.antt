@@ -2,13 +2,14 @@ use Rattle.std.proofs.Common.{◌≡◌, ℕ, Some, None, Option, refl, sym, ap,
 use Rattle.ft_trace.specs.Holds.{known_state}
 use Rattle.ft_bank.specs.declared.table.Table.{Table}
 use Rattle.ft_bank.specs.Passes.{shape_of, view}
-use Rattle.ft_bank.proofs.KnownAfterWrites.{loaded_held, work_knows}
+use Rattle.ft_bank.proofs.KnownAfterWrites.{work_knows}
 use Rattle.ft_search.proofs.Calling.{loaded_same}
 use Rattle.ft_search.proofs.Changing.{kind_is}
 use Rattle.ft_search.proofs.Spotting.{may_loaded}
 use Rattle.ft_new_keys.specs.KeyGrowth.{KnowsKeyed}
 use Rattle.ft_new_keys.proofs.Taken.{has_loaded}
 use Rattle.ft_merging.specs.Joining.{JoinsKeys, joined}
+use Rattle.ft_merging.proofs.Ending.{read_same}
 use Rattle.ft_merging.proofs.JoinedCalls.{joins_by, joins_later, joins_then}
 use Rattle.ft_merging.proofs.JoinedSame.{known_bare, known_itself, none_joined}
 use Rattle.ft_merging.proofs.joining.join_by.Goals as goal
@@ -32,10 +33,10 @@ joins c =
     let v = view a.pass.now in
     let u = view c.own_table.new.pass in
     let l = c.own_table.ensures.only in
-    joins_later a.o a.t a.called.now v u (has_loaded (shape_of a.bank.now) a.o None v u l (loaded_held v u a.o l)) l.work.pass.locks (work_knows v u a.o l.work) (work_knows v u a.t l.work) c.requires.joins
+    joins_later a.o a.t a.called.now v u (has_loaded (shape_of a.bank.now) a.o None v u l (read_same (shape_of a.bank.now) a.o v u c.requires.pass.1 c.requires.may.container c.requires.may.locked l)) l.work.pass.locks (work_knows v u a.o l.work) (work_knows v u a.t l.work) c.requires.joins
 
 pub join_nothing-requires-in_default-clause-may : goal.join_nothing-requires-in_default-clause-may
-join_nothing-requires-in_default-clause-may c = may_loaded (shape_of c.args.bank.now) c.args.o (view c.args.pass.now) (view c.own_table.new.pass) c.own_table.ensures.only c.requires.may
+join_nothing-requires-in_default-clause-may c = may_loaded (shape_of c.args.bank.now) c.args.o (view c.args.pass.now) (view c.own_table.new.pass) c.requires.pass.1 c.own_table.ensures.only c.requires.may
 
 pub join_nothing-requires-in_default-clause-joins : goal.join_nothing-requires-in_default-clause-joins
 join_nothing-requires-in_default-clause-joins c = joins (goal.at.join_nothing-requires-in_default-clause-joins c).After-own_table
@@ -61,7 +62,7 @@ returns-in_default-clause-added c =
     joins_by (shape_of a.bank.now) a.o a.t a.called.now (view a.pass.now) (view c.own_table.new.pass) (view c.join_nothing-in_default.new.pass) c.join_nothing-in_default.result c.own_table.ensures.only c.join_nothing-in_default.ensures.added
 
 pub join_from-requires-clause-may : goal.join_from-requires-clause-may
-join_from-requires-clause-may c = may_loaded (shape_of c.args.bank.now) c.args.o (view c.args.pass.now) (view c.own_table.new.pass) c.own_table.ensures.only c.requires.may
+join_from-requires-clause-may c = may_loaded (shape_of c.args.bank.now) c.args.o (view c.args.pass.now) (view c.own_table.new.pass) c.requires.pass.1 c.own_table.ensures.only c.requires.may
 
 pub join_from-requires-clause-other : goal.join_from-requires-clause-other
 join_from-requires-clause-other c = subst (λ (z : Option Table). KnowsKeyed (shape_of c.args.bank.now) c.args.t z (view c.own_table.new.pass)) c.in-Some.is c.own_table.ensures.knows

@@ -1,12 +1,12 @@
 use Rattle.std.proofs.Common.{◌≡◌, ◌+◌, ◌^◌, ◌<◌, ◌∷◌, Some, refl, sym, ap, ◌∙◌, subst, arith}
 use Rattle.ft_model.specs.Worlds.{kind_of, length_of, serial_of}
-use Rattle.ft_trace.specs.Holds.{held_words, known_state}
+use Rattle.ft_trace.specs.Holds.{held_unboxed, known_state}
 use Rattle.ft_trace.specs.Kinds.{IsKeyed}
 use Rattle.ft_trace.specs.Pictures.{ContainerWords}
 use Rattle.ft_trace.specs.ContainerStates.{ContainerState}
 use Rattle.ft_bank.specs.Passes.{shape_of, view}
 use Rattle.ft_bank.specs.Whole.{OnlyLoaded}
-use Rattle.ft_bank.proofs.KnownAfterWrites.{loaded_held, loaded_then, work_knows}
+use Rattle.ft_bank.proofs.KnownAfterWrites.{loaded_then, work_knows}
 use Rattle.ft_search.specs.Rounds.{kind_by}
 use Rattle.ft_search.proofs.Changing.{kind_is}
 use Rattle.ft_search.proofs.Spotting.{may_loaded}
@@ -17,6 +17,7 @@ use Rattle.ft_new_keys.proofs.Present.{may_add}
 use Rattle.ft_new_keys.proofs.Taken.{has_loaded}
 use Rattle.ft_new_keys.proofs.Wanted.{most_few}
 use Rattle.ft_merging.specs.Joining.{new_keys}
+use Rattle.ft_merging.proofs.Ending.{read_same}
 use Rattle.ft_merging.proofs.Joined.{cap_few, joined_more}
 use Rattle.ft_merging.proofs.JoinedCalls.{few_rows, joins_by, joins_later}
 use Rattle.ft_merging.proofs.JoinedSame.{known_cap}
@@ -39,7 +40,7 @@ all c = loaded_then (view c.args.pass.now) (view c.read_counts-counts.new.pass) 
 -- ---- how many are new
 
 mid : (c : After-own_table-old) → KnowsKeyed (shape_of c.args.bank.now) c.args.t (Some c.args.table) (view c.read_counts-counts.new.pass)
-mid c = knows_loaded (shape_of c.args.bank.now) c.args.t (Some c.args.table) (view c.args.pass.now) (view c.read_counts-counts.new.pass) (one c) c.requires.other
+mid c = knows_loaded (shape_of c.args.bank.now) c.args.t (Some c.args.table) (view c.args.pass.now) (view c.read_counts-counts.new.pass) c.requires.pass.1 (one c) c.requires.other
 
 source : (c : After-own_table-old) → Source (shape_of c.args.bank.now) c.args.way c.args.t c.args.table (view c.read_counts-counts.new.pass)
 source c =
@@ -66,19 +67,24 @@ join_more-requires-clause-may c =
     let a = c.args in
     let d = (goal.at.join_more-requires-clause-may c).After-own_table-old in
     let k = shape_of a.bank.now in
-    may_add k a.o c.own_table-old.result (view a.pass.now) (view c.own_table-old.new.pass) (all d) c.requires.used c.requires.idle (may_loaded k a.o (view a.pass.now) (view c.own_table-old.new.pass) (all d) c.requires.may) c.own_table-old.ensures.knows
+    may_add k a.o c.own_table-old.result (view a.pass.now) (view c.own_table-old.new.pass) (all d) c.requires.used c.requires.idle (may_loaded k a.o (view a.pass.now) (view c.own_table-old.new.pass) c.requires.pass.1 (all d) c.requires.may) c.own_table-old.ensures.knows
 
-counts : (c : After-own_table-old) → AreCounts (held_words c.args.o (view c.own_table-old.new.pass)).block c.read_counts-counts.result
+counts : (c : After-own_table-old) → AreCounts (held_unboxed c.args.o (view c.own_table-old.new.pass)).block c.read_counts-counts.result
 counts c =
     let a = c.args in
+    let k = shape_of a.bank.now in
     let v0 = view c.read_counts-others.new.pass in
-    subst (λ (z : ContainerWords). AreCounts z.block c.read_counts-counts.result) (sym (loaded_held v0 (view c.read_counts-counts.new.pass) a.o c.read_counts-counts.ensures.only) ∙ sym (loaded_held (view c.read_counts-counts.new.pass) (view c.own_table-old.new.pass) a.o (two c))) c.read_counts-counts.ensures.counts
+    let v1 = view c.read_counts-counts.new.pass in
+    let may = c.requires.may in
+    let first = read_same k a.o v0 v1 c.read_counts-others.ensures.pass.1 may.container (c.read_counts-others.ensures.only.work.pass.locks a.o ∙ may.locked) c.read_counts-counts.ensures.only in
+    let then_ = read_same k a.o v1 (view c.own_table-old.new.pass) c.read_counts-counts.ensures.pass.1 may.container ((one c).work.pass.locks a.o ∙ may.locked) (two c) in
+    subst (λ (z : ContainerWords). AreCounts z.block c.read_counts-counts.result) (sym first ∙ sym then_) c.read_counts-counts.ensures.counts
 
 full : (c : After-own_table-old) → c.read_counts-others.result.fill ≡ (known_state c.args.t (view c.args.pass.now)).table.fill
 full c =
     let a = c.args in
     let v = view a.pass.now in
-    sym c.read_counts-others.ensures.counts.1 ∙ (c.words_are_of_one_content.ensures.head (shape_of a.bank.now).texts (held_words a.t v).block (0 ∷ 0 ∷ (held_words a.t v).table) (known_state a.t v).table (known_state a.t v).content c.requires.other.stands).fill_is
+    sym c.read_counts-others.ensures.counts.1 ∙ (c.words_are_of_one_content.ensures.head (shape_of a.bank.now).texts (held_unboxed a.t v).block (0 ∷ 0 ∷ (held_unboxed a.t v).table) (known_state a.t v).table (known_state a.t v).content c.requires.other.stands).fill_is
 
 pub join_more-requires-clause-merge : goal.join_more-requires-clause-merge
 join_more-requires-clause-merge c =
@@ -88,7 +94,7 @@ join_more-requires-clause-merge c =
     let u = view c.own_table-old.new.pass in
     record {
       two = c.requires.two;
-      other = knows_loaded (shape_of a.bank.now) a.t (Some a.table) v u (all d) c.requires.other;
+      other = knows_loaded (shape_of a.bank.now) a.t (Some a.table) v u c.requires.pass.1 (all d) c.requires.other;
       way = c.requires.way;
       other_way = c.requires.other_way;
       others = full d ∙ ap (λ (z : ContainerState). z.table.fill) (sym (work_knows v u a.t (all d).work));
@@ -120,7 +126,7 @@ join_more-requires-clause-joins c =
     let d = (goal.at.join_more-requires-clause-joins c).After-own_table-old in
     let v = view a.pass.now in
     let u = view c.own_table-old.new.pass in
-    joins_later a.o a.t a.called.now v u (has_loaded (shape_of a.bank.now) a.o c.own_table-old.result v u (all d) (loaded_held v u a.o (all d))) (all d).work.pass.locks (work_knows v u a.o (all d).work) (work_knows v u a.t (all d).work) c.requires.joins
+    joins_later a.o a.t a.called.now v u (has_loaded (shape_of a.bank.now) a.o c.own_table-old.result v u (all d) (read_same (shape_of a.bank.now) a.o v u c.requires.pass.1 c.requires.may.container c.requires.may.locked (all d))) (all d).work.pass.locks (work_knows v u a.o (all d).work) (work_knows v u a.t (all d).work) c.requires.joins
 
 pub returns-clause-added : goal.returns-clause-added
 returns-clause-added c =

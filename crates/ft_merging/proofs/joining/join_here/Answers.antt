@@ -2,6 +2,7 @@ use Rattle.std.proofs.Common.{◌≡◌, ◌+◌, ◌≤◌, refl, sym, ap, ◌�
 use Rattle.ft_model.specs.declared.reply.Reply.TheVariants as reply
 use Rattle.ft_trace.specs.declared.View.{View}
 use Rattle.ft_trace.specs.Addresses.{class_of}
+use Rattle.ft_trace.specs.Boxes.{references_held}
 use Rattle.ft_trace.specs.Holds.{known_state}
 use Rattle.ft_trace.specs.Kinds.{rows}
 use Rattle.ft_trace.specs.ContainerStates.{ContainerState, kind_in}
@@ -11,6 +12,7 @@ use Rattle.ft_bank.proofs.TableAddresses.{class_is}
 use Rattle.ft_bank.proofs.KnownAfterWrites.{work_knows}
 use Rattle.ft_search.proofs.ReadyCommits.{whole_root, whole_write}
 use Rattle.ft_new_keys.proofs.FinishedKeys.{since_start}
+use Rattle.ft_new_keys.proofs.Placed.{refs_then}
 use Rattle.ft_merging.specs.Joining.{joined}
 use Rattle.ft_merging.specs.Internal.JoiningSteps.{IsJoining}
 use Rattle.ft_merging.proofs.Joined.{joined_finishes}
@@ -64,6 +66,7 @@ join_table-number-requires-clause-finishes c w counts only joining =
 pub returns-clause-added : goal.returns-clause-added
 returns-clause-added c =
     let a = c.args in
+    let k = shape_of a.bank.now in
     let v = view a.pass.now in
     let u = view c.start_write.new.pass in
     let w = view c.join_table-number.new.pass in
@@ -72,6 +75,7 @@ returns-clause-added c =
     let may = c.requires.may in
     let changed = c.requires.joins.changed in
     let root = e.2 ∙ sym may.keyed.root in
-    made_here (shape_of a.bank.now) a.merge.now.o a.called.now v w c.written.result c.join_table-number.result c.written.ensures changed
+    made_here k a.merge.now.o a.called.now v w c.written.result c.join_table-number.result c.written.ensures changed
     (whole_write a.merge.now.o v u e.0 c.start_write.result begun e.1 a.called.now reply.Done c.join_table-number.result w changed may.keyed.even e.3 root)
+    (refs_then v u w (λ b. ap (λ (z : View). references_held z.shape b z.log) begun) c.join_table-number.ensures.references)
     (whole_root a.merge.now.o v u e.0 c.start_write.result begun e.1 a.called.now reply.Done c.join_table-number.result w changed e.3 root)

@@ -4,20 +4,23 @@ use Rattle.ft_model.specs.declared.script.Kind.{Kind}
 use Rattle.ft_model.specs.TableUses.{passes_cap}
 use Rattle.ft_model.specs.Worlds.{kind_of, length_of}
 use Rattle.ft_trace.specs.Addresses.{class_of}
-use Rattle.ft_trace.specs.Holds.{held_words, in_hand, known_state}
+use Rattle.ft_trace.specs.Holds.{held_words, held_unboxed, in_hand, known_state}
 use Rattle.ft_trace.specs.Kinds.{rows}
 use Rattle.ft_trace.specs.Pictures.{root_in}
 use Rattle.ft_trace.specs.ContainerStates.{ContainerState, kind_in}
 use Rattle.ft_bank.specs.Passes.{shape_of, view}
 use Rattle.ft_bank.specs.TableNames.{table_id}
-use Rattle.ft_bank.proofs.KnownAfterWrites.{put_then, work_knows}
+use Rattle.ft_bank.proofs.KnownAfterWrites.{put_written, work_knows, written_then}
+use Rattle.ft_bank.specs.Whole.{OnlyWritten}
 use Rattle.ft_search.specs.Rounds.{kind_by}
 use Rattle.ft_search.proofs.Changing.{kind_is}
 use Rattle.ft_new_keys.specs.Fresh.{IsFilledWith}
 use Rattle.ft_new_keys.specs.KeyGrowth.{MayGrowKeyed}
 use Rattle.ft_new_keys.proofs.FinishedKeys.{since_root}
-use Rattle.ft_new_keys.proofs.Grown.{filled_has, grow_filled, grown_wrote, knows_filled, same_filled}
+use Rattle.ft_new_keys.proofs.Grown.{filled_has, grow_filled, grown_wrote, knows_filled, same_filled, words_filled}
 use Rattle.ft_new_keys.proofs.Keyed.{counts_known}
+use Rattle.ft_new_keys.proofs.Placed.{refs_then}
+use Rattle.ft_search.proofs.Puts.{same_done}
 use Rattle.ft_merging.specs.Joining.{JoinsKeys, join_takes, joined}
 use Rattle.ft_merging.specs.Merging.{MayMerge}
 use Rattle.ft_merging.specs.Internal.JoiningSteps.{IsJoining}
@@ -82,7 +85,7 @@ grow c =
     let a = c.args in
     grow_filled (shape_of a.bank.now) a.merge.now.o a.old a.new (view a.pass.now) (view c.fill.new.pass) c.requires.pass.1 c.fill.ensures.only c.requires.may
 
-same : (c : After-fill) → (held_words c.args.merge.now.o (view c.fill.new.pass) ≡ held_words c.args.merge.now.o (view c.args.pass.now)) × (known_state c.args.merge.now.o (view c.fill.new.pass) ≡ known_state c.args.merge.now.o (view c.args.pass.now))
+same : (c : After-fill) → (held_unboxed c.args.merge.now.o (view c.fill.new.pass) ≡ held_unboxed c.args.merge.now.o (view c.args.pass.now)) × (known_state c.args.merge.now.o (view c.fill.new.pass) ≡ known_state c.args.merge.now.o (view c.args.pass.now))
 same c =
     let a = c.args in
     same_filled (shape_of a.bank.now) a.merge.now.o a.old (view a.pass.now) (view c.fill.new.pass) c.requires.pass.1 c.fill.ensures.only c.requires.may.keyed
@@ -125,29 +128,32 @@ begin_in-requires-clause-filled c = filled (goal.at.begin_in-requires-clause-fil
 
 -- ---- once its root names the table
 
+counted_only : (c : After-put_counts) → OnlyWritten c.args.merge.now.o (view c.begin_in.new.pass) (view c.put_counts.new.pass)
+counted_only c = put_written c.args.merge.now.o (view c.begin_in.new.pass) (view c.put_counts.new.pass) c.put_counts.ensures.only
+
 pub join_table-requires-clause-other : goal.join_table-requires-clause-other
 join_table-requires-clause-other c =
     let a = c.args in
     let f = (goal.at.join_table-requires-clause-other c).After-fill in
     let w = (goal.at.join_table-requires-clause-other c).After-words_are_of_one_content in
-    let did = c.begin_in.ensures.did in
+    let at = goal.at.join_table-requires-clause-other c in
     let x = view c.fill.new.pass in
-    other_on c.words_are_of_one_content.ensures.head (record { pairs = c.used_entries_follow_a_dict.ensures.first; elements = c.used_entries_follow_a_set.ensures.first }) (shape_of a.bank.now) a.merge.now.o a.way a.old a.new a.merge.now.t a.merge.now.table a.merge.now.counts a.merge.now.more x (view c.begin_in.new.pass) (view c.put_counts.new.pass) did.0 (root_in (held_words a.merge.now.o x)) c.fill.ensures.pass.1 c.fill.new.pass.possible (merge f).two (grow f) (merge f).other (merge f).way (merge f).other_way
-    (filled f) (merge f).counts (merge f).more (cap f) (merge f).serials (row w) did.1.1 did.2 c.begin_in.ensures.words c.begin_in.ensures.pass.1 c.put_counts.ensures.only c.put_counts.ensures.words c.put_counts.ensures.writes c.put_counts.ensures.pass.1 c.put_counts.new.pass.possible
+    other_on c.words_are_of_one_content.ensures.head (record { pairs = c.used_entries_follow_a_dict.ensures.first; elements = c.used_entries_follow_a_set.ensures.first }) (shape_of a.bank.now) a.merge.now.o a.way a.old a.new a.merge.now.t a.merge.now.table a.merge.now.counts a.merge.now.more x (view c.begin_in.new.pass) (view c.put_counts.new.pass) c.fill.ensures.pass.1 c.fill.new.pass.possible (merge f).two (grow f) (merge f).other (merge f).way (merge f).other_way
+    (filled f) (merge f).counts (merge f).more (cap f) (merge f).serials (row w) c.begin_in.ensures.begins c.begin_in.ensures.words (counted_only at.After-put_counts) c.put_counts.ensures.words c.put_counts.ensures.writes c.put_counts.ensures.pass.1 c.put_counts.new.pass.possible
 
 pub join_table-requires-clause-joining : goal.join_table-requires-clause-joining
 join_table-requires-clause-joining c =
     let a = c.args in
     let f = (goal.at.join_table-requires-clause-joining c).After-fill in
     let w = (goal.at.join_table-requires-clause-joining c).After-words_are_of_one_content in
-    let did = c.begin_in.ensures.did in
+    let at = goal.at.join_table-requires-clause-joining c in
     let x = view c.fill.new.pass in
-    new_begins c.words_are_of_one_content.ensures.head (record { pairs = c.used_entries_follow_a_dict.ensures.first; elements = c.used_entries_follow_a_set.ensures.first }) (shape_of a.bank.now) a.merge.now.o a.way a.old a.new a.merge.now.t a.merge.now.table a.merge.now.counts a.merge.now.more x (view c.begin_in.new.pass) (view c.put_counts.new.pass) did.0 (root_in (held_words a.merge.now.o x)) c.fill.ensures.pass.1 c.fill.new.pass.possible (merge f).two (grow f) (merge f).other (merge f).way (merge f).other_way
-    (filled f) (merge f).counts (merge f).more (cap f) (merge f).serials (row w) did.1.1 did.2 c.begin_in.ensures.words c.begin_in.ensures.pass.1 c.put_counts.ensures.only c.put_counts.ensures.words c.put_counts.ensures.writes c.put_counts.ensures.pass.1 c.put_counts.new.pass.possible
+    new_begins c.words_are_of_one_content.ensures.head (record { pairs = c.used_entries_follow_a_dict.ensures.first; elements = c.used_entries_follow_a_set.ensures.first }) (shape_of a.bank.now) a.merge.now.o a.way a.old a.new a.merge.now.t a.merge.now.table a.merge.now.counts a.merge.now.more x (view c.begin_in.new.pass) (view c.put_counts.new.pass) c.fill.ensures.pass.1 c.fill.new.pass.possible (merge f).two (grow f) (merge f).other (merge f).way (merge f).other_way
+    (filled f) (merge f).counts (merge f).more (cap f) (merge f).serials (row w) c.begin_in.ensures.begins c.begin_in.ensures.words (counted_only at.After-put_counts) c.put_counts.ensures.words c.put_counts.ensures.writes c.put_counts.ensures.pass.1 c.put_counts.new.pass.possible
 
 -- the pass knows the same contents as after the filling
 knows_on : (c : After-put_counts) (p : ℕ) → known_state p (view c.put_counts.new.pass) ≡ known_state p (view c.fill.new.pass)
-knows_on c p = work_knows (view c.begin_in.new.pass) (view c.put_counts.new.pass) p c.put_counts.ensures.only.work ∙ ap (known_state p) c.begin_in.ensures.did.1.1
+knows_on c p = work_knows (view c.begin_in.new.pass) (view c.put_counts.new.pass) p c.put_counts.ensures.only.work ∙ (let b = c.begin_in.ensures.begins in work_knows b.rooted (view c.begin_in.new.pass) p b.only.work ∙ ap (known_state p) b.is)
 
 pub join_table-requires-clause-finishes : goal.join_table-requires-clause-finishes
 join_table-requires-clause-finishes c w counts_then only joining =
@@ -156,7 +162,7 @@ join_table-requires-clause-finishes c w counts_then only joining =
     let f = (goal.at.join_table-requires-clause-finishes c).After-fill in
     let p = (goal.at.join_table-requires-clause-finishes c).After-put_counts in
     let b = (goal.at.join_table-requires-clause-finishes c).After-words_are_of_one_content in
-    let did = c.begin_in.ensures.did in
+    let begun = c.begin_in.ensures.begins in
     let x = view c.fill.new.pass in
     let y = view c.begin_in.new.pass in
     let z = view c.put_counts.new.pass in
@@ -166,7 +172,7 @@ join_table-requires-clause-finishes c w counts_then only joining =
     let all = many_joined k a.way a.merge.now.t a.merge.now.table (view a.pass.now) (source b) (known_state a.merge.now.o (view a.pass.now)).content (kinds b) in
     let long : length_of (joined (known_state a.merge.now.o x).content (known_state a.merge.now.t x).content) ≡ a.merge.now.counts.count + a.merge.now.more = (λ i. length_of (joined ((same f).1 i).content (other f i).content)) ∙ omega (arith, n, m, all) in
     joined_finishes (record { pairs = c.used_entries_follow_a_dict.ensures.first; elements = c.used_entries_follow_a_set.ensures.first }) k a.merge.now.o a.way a.new a.merge.now.t a.merge.now.table (a.merge.now.counts.count + a.merge.now.more) a.merge.now.others counts_then x w
-    (since_root a.merge.now.o (table_id a.new) (root_in (held_words a.merge.now.o x)) x y w did.0 did.1.1 (put_then y z w a.merge.now.o c.put_counts.ensures.only only)) c.fill.ensures.pass.1 c.requires.may.keyed.container (grow f).left a.called.now (joins f) (cap f)
+    (since_root a.merge.now.o (table_id a.new) (root_in (held_words a.merge.now.o x)) x begun.rooted w begun.found begun.is (written_then a.merge.now.o begun.rooted y w begun.only (written_then a.merge.now.o y z w (counted_only p) only))) c.fill.ensures.pass.1 c.requires.may.keyed.container (grow f).left a.called.now (joins f) (cap f)
     (λ found class has owed.
     let is : class_of (table_id a.new) ≡ class = omega (arith, owed, owes) in
     (joins f).takes found has ∙ (takes f ∙ ap (λ (q : ℕ). Some q) is))
@@ -177,18 +183,27 @@ join_table-requires-clause-finishes c w counts_then only joining =
 pub returns-clause-wrote : goal.returns-clause-wrote
 returns-clause-wrote c =
     let a = c.args in
+    let o = a.merge.now.o in
     let v = view a.pass.now in
     let x = view c.fill.new.pass in
     let y = view c.begin_in.new.pass in
     let z = view c.put_counts.new.pass in
     let f = (goal.at.returns-clause-wrote c).After-fill in
-    let did = c.begin_in.ensures.did in
+    let p = (goal.at.returns-clause-wrote c).After-put_counts in
     let e = c.join_table.ensures.ends in
-    let root : root_in (held_words a.merge.now.o x) ≡ root_in (held_words a.merge.now.o v) = ap root_in (same f).0 in
-    grown_wrote a.merge.now.o (table_id a.new) a.called.now reply.Done c.join_table.result did.0 v x y e.0 (view c.join_table.new.pass) c.requires.joins.changed c.fill.ensures.only root (λ is. c.requires.apart (sym root ∙ is)) (grow f).keyed.even did.1.1 did.2 (put_then y z e.0 a.merge.now.o c.put_counts.ensures.only e.1) e.2 e.3
+    let words = words_filled (shape_of a.bank.now) o a.old v x c.requires.pass.1 c.fill.ensures.only c.requires.may.keyed in
+    grown_wrote o a.new a.called.now reply.Done c.join_table.result v x y e.0 (view c.join_table.new.pass) c.requires.joins.changed c.fill.ensures.only words (λ is. c.requires.apart (sym (ap root_in words) ∙ is)) (grow f).keyed.even c.begin_in.ensures.begins (written_then o y z e.0 (counted_only p) e.1) e.2 e.3
 
 pub returns-clause-root : goal.returns-clause-root
 returns-clause-root c =
     let a = c.args in
     let e = c.join_table.ensures.ends in
-    subst (λ (n : ℕ). root_in (held_words n (view c.join_table.new.pass)) ≡ root_in (held_words n e.0)) c.requires.joins.changed e.3.root ∙ e.2
+    subst (λ (n : ℕ). root_in (held_unboxed n (view c.join_table.new.pass)) ≡ root_in (held_unboxed n e.0)) c.requires.joins.changed e.3.root ∙ e.2
+
+pub returns-clause-references : goal.returns-clause-references
+returns-clause-references c =
+    let a = c.args in
+    let v = view a.pass.now in
+    let z = view c.put_counts.new.pass in
+    let e = c.put_counts.ensures in
+    refs_then v z (view c.join_table.new.pass) (same_done (shape_of a.bank.now) v z c.requires.pass.1 e.pass.1 c.requires.may.boxes e.writes.boxes) c.join_table.ensures.references

@@ -36,4 +36,4 @@ pub returns-in-None-clause-added : goal.returns-in-None-clause-added
 returns-in-None-clause-added c =
     let a = c.args in
     let n = c.write_nothing.ensures in
-    made_here (shape_of a.bank.now) a.merge.now.o a.called.now (view a.pass.now) (view c.write_nothing.new.pass) c.written.result c.write_nothing.result c.written.ensures c.requires.joins.changed n.wrote n.root
+    made_here (shape_of a.bank.now) a.merge.now.o a.called.now (view a.pass.now) (view c.write_nothing.new.pass) c.written.result c.write_nothing.result c.written.ensures c.requires.joins.changed n.wrote n.references n.root

@@ -1,7 +1,7 @@
 use Rattle.std.proofs.Common.{◌≡◌, ◌≢◌, ℕ, suc, Some, refl, sym, ap, ◌∙◌, subst}
 use Rattle.ft_model.specs.declared.reply.Reply.TheVariants as reply
 use Rattle.ft_trace.specs.Addresses.{class_of}
-use Rattle.ft_trace.specs.Holds.{held_words, known_state}
+use Rattle.ft_trace.specs.Holds.{held_unboxed, known_state}
 use Rattle.ft_trace.specs.Pictures.{root_in}
 use Rattle.ft_trace.specs.ContainerStates.{changes}
 use Rattle.ft_bank.specs.Passes.{shape_of, view}
@@ -21,7 +21,7 @@ use Rattle.ft_merging.proofs.Merged.{merge_later}
 use Rattle.ft_merging.proofs.joining.join_in_taken.Goals as goal
 use Rattle.ft_merging.proofs.joining.join_in_taken.Goals.{In-Taken}
 
-mine : (c : In-Taken) → (held_words c.args.merge.now.o (view c.take.new.pass) ≡ held_words c.args.merge.now.o (view c.args.pass.now)) × (known_state c.args.merge.now.o (view c.take.new.pass) ≡ known_state c.args.merge.now.o (view c.args.pass.now))
+mine : (c : In-Taken) → (held_unboxed c.args.merge.now.o (view c.take.new.pass) ≡ held_unboxed c.args.merge.now.o (view c.args.pass.now)) × (known_state c.args.merge.now.o (view c.take.new.pass) ≡ known_state c.args.merge.now.o (view c.args.pass.now))
 mine c =
     let a = c.args in
     let e = c.in-Taken.ensures in
@@ -40,7 +40,7 @@ grow c =
     let x = e.did.6 in
     tried_may _ (view a.pass.now) (view c.take.new.pass) e.same e.keeps (shape_of a.bank.now) a.merge.now.o a.old c.in-Taken.new a.class c.requires.pass.1 c.requires.may x.0 x.1 x.3 x.4
 
-apart : (c : In-Taken) → root_in (held_words c.args.merge.now.o (view c.take.new.pass)) ≢ suc (table_id c.in-Taken.new)
+apart : (c : In-Taken) → root_in (held_unboxed c.args.merge.now.o (view c.take.new.pass)) ≢ suc (table_id c.in-Taken.new)
 apart c =
     let a = c.args in
     let g = grow c in
@@ -86,9 +86,9 @@ retire_old-requires-clause-out c t is =
     let w = view c.join_in_new-number.new.pass in
     let e = c.join_in_new-number.ensures in
     let at = c.requires.joins.changed in
-    let root : root_in (held_words a.merge.now.o u) ≡ suc (table_id t) = (grow d).keyed.root ∙ ap root_for is in
-    let before : root_in (held_words (changes a.called.now) u) ≡ suc (table_id t) = subst (λ (n : ℕ). root_in (held_words n u) ≡ suc (table_id t)) (sym at) root in
-    let after : root_in (held_words (changes a.called.now) w) ≡ suc (table_id c.in-Taken.new) = subst (λ (n : ℕ). root_in (held_words n w) ≡ suc (table_id c.in-Taken.new)) (sym at) e.root in
+    let root : root_in (held_unboxed a.merge.now.o u) ≡ suc (table_id t) = (grow d).keyed.root ∙ ap root_for is in
+    let before : root_in (held_unboxed (changes a.called.now) u) ≡ suc (table_id t) = subst (λ (n : ℕ). root_in (held_unboxed n u) ≡ suc (table_id t)) (sym at) root in
+    let after : root_in (held_unboxed (changes a.called.now) w) ≡ suc (table_id c.in-Taken.new) = subst (λ (n : ℕ). root_in (held_unboxed n w) ≡ suc (table_id c.in-Taken.new)) (sym at) e.root in
     let out = taken_out a.called.now reply.Done c.join_in_new-number.result (table_id t) (suc (table_id c.in-Taken.new)) u w e.wrote before after (λ same_name. apart d (root ∙ same_name)) in
     (c.requires.may.keyed.table_in t is, out.0, out.1)
 
@@ -108,10 +108,11 @@ returns-in-Taken-clause-added c =
         table = c.in-Taken.new;
         taken = u;
         tried = record { mid = e.did.0; freed = e.did.1; acts = e.did.2; collected = e.did.3; did = e.did.4; taking = e.did.5; has = e.did.6; floor = e.floor; same = e.same; keeps = e.keeps; hands = e.hands };
-        other = subst (λ (n : ℕ). root_in (held_words n u) ≢ suc (table_id c.in-Taken.new)) (sym at) (apart d);
+        other = subst (λ (n : ℕ). root_in (held_unboxed n u) ≢ suc (table_id c.in-Taken.new)) (sym at) (apart d);
         done = done;
         wrote = subst (λ (z : Stamp). Wrote a.called.now reply.Done z.number u done) (sym is) w.wrote;
-        root = subst (λ (n : ℕ). root_in (held_words n done) ≡ suc (table_id c.in-Taken.new)) (sym at) w.root;
-        retired = subst (λ (n : ℕ). Retires n done (view c.retire_old.new.pass)) (sym (grow d).keyed.root ∙ sym (ap (λ (n : ℕ). root_in (held_words n u)) at)) c.retire_old.ensures.retired;
+        root = subst (λ (n : ℕ). root_in (held_unboxed n done) ≡ suc (table_id c.in-Taken.new)) (sym at) w.root;
+        references = w.references;
+        retired = subst (λ (n : ℕ). Retires n done (view c.retire_old.new.pass)) (sym (grow d).keyed.root ∙ sym (ap (λ (n : ℕ). root_in (held_unboxed n u)) at)) c.retire_old.ensures.retired;
       },
     )

@@ -20,4 +20,4 @@ returns-clause-added c =
     let v = view a.pass.now in
     let n = c.write_nothing.ensures in
     joins_nothing (shape_of a.bank.now) a.o a.t a.called.now v (view c.write_nothing.new.pass) (added.Made c.written.result) c.requires.same (few (goal.at.returns-clause-added c).After-used_entries_follow_a_set)
-    (made_here (shape_of a.bank.now) a.o a.called.now v (view c.write_nothing.new.pass) c.written.result c.write_nothing.result c.written.ensures c.requires.joins.changed n.wrote n.root)
+    (made_here (shape_of a.bank.now) a.o a.called.now v (view c.write_nothing.new.pass) c.written.result c.write_nothing.result c.written.ensures c.requires.joins.changed n.wrote n.references n.root)

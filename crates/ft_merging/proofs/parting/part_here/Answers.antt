@@ -9,21 +9,21 @@ use Rattle.ft_layout.specs.Containers.{IsSetWords}
 use Rattle.ft_keys.specs.declared.walk.Way.TheVariants as way
 use Rattle.ft_trace.specs.declared.View.{View}
 use Rattle.ft_trace.specs.Addresses.{class_of}
-use Rattle.ft_trace.specs.Holds.{held_words, known_state}
+use Rattle.ft_trace.specs.Holds.{held_unboxed, known_state}
 use Rattle.ft_trace.specs.Kinds.{rows}
 use Rattle.ft_trace.specs.ContainerStates.{ContainerState}
 use Rattle.ft_bank.specs.Passes.{shape_of, view}
 use Rattle.ft_bank.specs.TableNames.{table_id}
-use Rattle.ft_bank.specs.Whole.{OnlyPut}
+use Rattle.ft_bank.specs.Whole.{OnlyWritten}
 use Rattle.ft_bank.proofs.TableAddresses.{class_is}
-use Rattle.ft_bank.proofs.KnownAfterWrites.{put_then, work_knows}
+use Rattle.ft_bank.proofs.KnownAfterWrites.{work_knows, written_then}
 use Rattle.ft_search.specs.OneEntryWrites.{HasTable, KnowsEntries, MayWriteEntries}
 use Rattle.ft_search.proofs.Changing.{kind_is}
 use Rattle.ft_search.proofs.ReadyCommits.{whole_root, whole_write}
-use Rattle.ft_search.proofs.Puts.{table_class}
+use Rattle.ft_search.proofs.Puts.{same_done, table_class}
 use Rattle.ft_new_keys.specs.KeyGrowth.{keys_take}
 use Rattle.ft_new_keys.proofs.Keyed.{use_known}
-use Rattle.ft_new_keys.proofs.Placed.{use_with}
+use Rattle.ft_new_keys.proofs.Placed.{refs_then, use_with}
 use Rattle.ft_merging.specs.Joining.{join_takes, joined}
 use Rattle.ft_merging.specs.Parting.{parted}
 use Rattle.ft_merging.specs.Internal.JoiningSteps.{IsJoining}
@@ -84,7 +84,7 @@ cap c =
     let a = c.args in
     let k = shape_of a.bank.now in
     let v = view a.pass.now in
-    let x = held_words a.merge.now.o v in
+    let x = held_unboxed a.merge.now.o v in
     let class = class_of (table_id a.own) in
     let says = first_says k a.merge.now.o a.own false (set_of (known_state a.merge.now.t v).content) v (view c.start_write.new.pass) c.start_write.result c.requires.pass.1 a.pass.now.possible (may c) c.requires.merge.way (has c) c.start_write.ensures.1 in
     let here = subst (λ (z : TableUse). IsSetWords k.texts x.block (0 ∷ 0 ∷ x.table) (Some class) z.fill (set_of (known_state a.merge.now.o v).content)) (table_is c) says in
@@ -170,8 +170,8 @@ thin_all-requires-clause-thinned c =
 
 -- ---- the end
 
-only : (c : After-thin_all) → OnlyPut c.args.merge.now.o (view c.start_write.new.pass) (view c.thin_all.new.pass)
-only c = put_then (view c.start_write.new.pass) (view c.join_all.new.pass) (view c.thin_all.new.pass) c.args.merge.now.o c.join_all.ensures.only c.thin_all.ensures.only
+only : (c : After-thin_all) → OnlyWritten c.args.merge.now.o (view c.start_write.new.pass) (view c.thin_all.new.pass)
+only c = written_then c.args.merge.now.o (view c.start_write.new.pass) (view c.join_all.new.pass) (view c.thin_all.new.pass) c.join_all.ensures.only c.thin_all.ensures.only
 
 pub finish_entries-requires-clause-fill : goal.finish_entries-requires-clause-fill
 finish_entries-requires-clause-fill c =
@@ -213,3 +213,14 @@ returns-clause-root c =
     let th = c.thin_all.ensures.thinned (to b) (begins b (may d) (has d) (table_is d)) in
     whole_root a.merge.now.o (view a.pass.now) (view c.start_write.new.pass) (view c.thin_all.new.pass) c.start_write.result c.start_write.ensures.1 (only at.After-thin_all) a.called.now reply.Done c.finish_entries.result (view c.finish_entries.new.pass) c.requires.parts.changed c.finish_entries.ensures.ends
     (th.midway.writes.root ∙ sym c.requires.may.keyed.root)
+
+pub returns-clause-references : goal.returns-clause-references
+returns-clause-references c =
+    let a = c.args in
+    let at = goal.at.returns-clause-references c in
+    let d = at.After-start_write in
+    let b = at.After-join_all in
+    let v = view a.pass.now in
+    let u = view c.thin_all.new.pass in
+    let th = c.thin_all.ensures.thinned (to b) (begins b (may d) (has d) (table_is d)) in
+    refs_then v u (view c.finish_entries.new.pass) (same_done (shape_of a.bank.now) v u c.requires.pass.1 c.thin_all.ensures.pass.1 c.requires.may.boxes th.midway.writes.boxes) c.finish_entries.ensures.references

@@ -13,7 +13,7 @@ use Rattle.ft_layout.specs.declared.slot.Stored.TheVariants.{Boxed, Empty, Plain
 use Rattle.ft_trace.specs.declared.Shape.{Shape}
 use Rattle.ft_trace.specs.declared.View.{View}
 use Rattle.ft_trace.specs.Addresses.{class_of, container_count, slots}
-use Rattle.ft_trace.specs.Holds.{held_words, known_state}
+use Rattle.ft_trace.specs.Holds.{held_unboxed, known_state}
 use Rattle.ft_trace.specs.Kinds.{rows}
 use Rattle.ft_trace.specs.Pictures.{ContainerWords, entry_field, root_in, Represents}
 use Rattle.ft_trace.specs.ContainerStates.{ContainerState, kind_in}
@@ -21,7 +21,7 @@ use Rattle.ft_trace.specs.WholeWrites.{MayPuts, with_puts}
 use Rattle.ft_bank.specs.Passes.{shape_of, view}
 use Rattle.ft_bank.specs.TableNames.{table_id}
 use Rattle.ft_bank.specs.Whole.{OnlyLoaded}
-use Rattle.ft_bank.proofs.KnownAfterWrites.{loaded_held, loaded_put, loaded_then, put_then}
+use Rattle.ft_bank.proofs.KnownAfterWrites.{loaded_put, loaded_then, put_written, written_then}
 use Rattle.ft_search.proofs.Puts.{writes_on}
 use Rattle.ft_search.specs.declared.spots.Spot.{Spot}
 use Rattle.ft_search.specs.declared.spots.Spot.TheVariants as spot
@@ -31,9 +31,10 @@ use Rattle.ft_search.proofs.OtherValues.{ValueLaws}
 use Rattle.ft_new_keys.specs.declared.counts.Counts.{Counts}
 use Rattle.ft_new_keys.specs.Placing.{StoresAs}
 use Rattle.ft_new_keys.specs.Internal.Laying.{IsUnused, with_entry}
-use Rattle.ft_new_keys.proofs.Placed.{PlaceLaws, pair_for}
+use Rattle.ft_new_keys.proofs.Placed.{PlaceLaws, pair_for, stores_plain}
 use Rattle.ft_merging.specs.Joining.{joined}
 use Rattle.ft_merging.specs.Internal.JoiningSteps.{IsJoining, IsSought, KeepsBelow, pair_in, stored_puts}
+use Rattle.ft_merging.proofs.Ending.{read_same}
 use Rattle.ft_merging.proofs.Joined.{inside, joining_dead, joining_loaded, joining_may, joining_new, joining_there, new_room, stores, there_low}
 use Rattle.ft_merging.proofs.JoinedPairs.{source_known}
 use Rattle.ft_merging.proofs.JoinedReads.{entry_used, none_found, none_used, pair_used}
@@ -42,8 +43,8 @@ use Rattle.ft_merging.proofs.putting.join_at.Goals as goal
 use Rattle.ft_merging.proofs.putting.join_at.Goals.{After-pair_at, After-seek_in, After-words_follow_a_set, In-Some}
 
 -- loads change no words
-same_below : (t place : ℕ) (v w : View) (o : ℕ) → OnlyLoaded v w → KeepsBelow t place (held_words o v) (held_words o w)
-same_below t place v w o only p word less few = ap (λ (x : ContainerWords). entry_field (slots (class_of t)) x.table p word) (loaded_held v w o only)
+same_below : (t place : ℕ) (v w : View) (o : ℕ) → held_unboxed o w ≡ held_unboxed o v → KeepsBelow t place (held_unboxed o v) (held_unboxed o w)
+same_below t place v w o same p word less few = ap (λ (x : ContainerWords). entry_field (slots (class_of t)) x.table p word) same
 
 abbrev done : After-words_follow_a_set → Content
 done c = joined (known_state c.args.o (view c.args.pass.now)).content (known_state c.args.t (view c.args.pass.now)).content
@@ -96,7 +97,7 @@ found c =
     let k = shape_of a.bank.now in
     let j = c.requires.joining in
     let low = inside k a.o a.way a.own a.t a.table _ a.end a.place a.counts (view a.pass.now) j c.requires.place any in
-    c.pair_at.ensures.pair (slot_of k.texts (slice_index_or j.used a.place any)) (entry_used a.way k.texts k a.table (c.requires.other.table_in a.table refl) j.used (held_words a.t (view a.pass.now)).table j.source a.place any low)
+    c.pair_at.ensures.pair (slot_of k.texts (slice_index_or j.used a.place any)) (entry_used a.way k.texts k a.table (c.requires.other.table_in a.table refl) j.used (held_unboxed a.t (view a.pass.now)).table j.source a.place any low)
 
 -- the pair, where one is there
 there : (c : In-Some) → ((slice_index_or c.requires.joining.used c.args.place any).stored ≡ Some c.in-Some.pair.value) × ((slice_index_or c.requires.joining.used c.args.place any).key ≡ c.in-Some.pair.key) × (c.in-Some.pair.hash ≡ hash_of (shape_of c.args.bank.now).texts c.in-Some.pair.key) × FitsKey c.in-Some.pair.key × FitsStored c.in-Some.pair.value
@@ -106,14 +107,18 @@ there c =
     let j = c.requires.joining in
     let low = inside k a.o a.way a.own a.t a.table _ a.end a.place a.counts (view a.pass.now) j c.requires.place any in
     pair_used k.texts (slice_index_or j.used a.place any) c.pair_at.result
-    (c.pair_at.ensures.pair (slot_of k.texts (slice_index_or j.used a.place any)) (entry_used a.way k.texts k a.table (c.requires.other.table_in a.table refl) j.used (held_words a.t (view a.pass.now)).table j.source a.place any low))
-    (entry_field (slots (class_of (table_id a.table))) (held_words a.t (view a.pass.now)).table a.place)
-    (entry_used a.way k.texts k a.table (c.requires.other.table_in a.table refl) j.used (held_words a.t (view a.pass.now)).table j.source a.place any low) c.in-Some.pair c.in-Some.is
+    (c.pair_at.ensures.pair (slot_of k.texts (slice_index_or j.used a.place any)) (entry_used a.way k.texts k a.table (c.requires.other.table_in a.table refl) j.used (held_unboxed a.t (view a.pass.now)).table j.source a.place any low))
+    (entry_field (slots (class_of (table_id a.table))) (held_unboxed a.t (view a.pass.now)).table a.place)
+    (entry_used a.way k.texts k a.table (c.requires.other.table_in a.table refl) j.used (held_unboxed a.t (view a.pass.now)).table j.source a.place any low) c.in-Some.pair c.in-Some.is
+
+-- loads leave its words
+read_on : (c : After-pair_at) → held_unboxed c.args.o (view c.pair_at.new.pass) ≡ held_unboxed c.args.o (view c.args.pass.now)
+read_on c = let w = c.requires.joining.midway.writes in read_same (shape_of c.args.bank.now) c.args.o (view c.args.pass.now) (view c.pair_at.new.pass) c.requires.pass.1 w.container w.locked c.pair_at.ensures.only
 
 -- ---- it was deleted
 
 pub returns-in_default-clause-only : goal.returns-in_default-clause-only
-returns-in_default-clause-only c = loaded_put (view c.args.pass.now) (view c.pair_at.new.pass) c.args.o c.pair_at.ensures.only
+returns-in_default-clause-only c = put_written c.args.o (view c.args.pass.now) (view c.pair_at.new.pass) (loaded_put (view c.args.pass.now) (view c.pair_at.new.pass) c.args.o c.pair_at.ensures.only)
 
 pub returns-in_default-clause-joining : goal.returns-in_default-clause-joining
 returns-in_default-clause-joining c =
@@ -123,11 +128,11 @@ returns-in_default-clause-joining c =
     let j = c.requires.joining in
     let f = found (goal.at.returns-in_default-clause-joining c).After-pair_at in
     let dead = none_used k.texts (slice_index_or j.used a.place any) c.pair_at.result f (none_found c.pair_at.result c.in_default.not-Some) in
-    joining_loaded k a.o a.way a.own a.t a.table _ a.end (a.place + 1) a.counts v (view c.pair_at.new.pass) c.pair_at.ensures.only
+    joining_loaded k a.o a.way a.own a.t a.table _ a.end (a.place + 1) a.counts v (view c.pair_at.new.pass) c.requires.pass.1 c.pair_at.ensures.only c.requires.other
     (joining_dead k a.o a.way a.own a.t a.table _ a.end a.place a.counts v j c.requires.place any dead)
 
 pub returns-in_default-clause-keeps : goal.returns-in_default-clause-keeps
-returns-in_default-clause-keeps c sets = same_below (table_id c.args.own) c.args.counts.fill (view c.args.pass.now) (view c.pair_at.new.pass) c.args.o c.pair_at.ensures.only
+returns-in_default-clause-keeps c sets = same_below (table_id c.args.own) c.args.counts.fill (view c.args.pass.now) (view c.pair_at.new.pass) c.args.o (read_on (goal.at.returns-in_default-clause-keeps c).After-pair_at)
 
 -- ---- the search
 
@@ -135,7 +140,7 @@ writes : (c : After-pair_at) → WritesEntries (shape_of c.args.bank.now) c.args
 writes c =
     let a = c.args in
     let v = view a.pass.now in
-    writes_on (shape_of a.bank.now) a.o a.own v (view c.pair_at.new.pass) (loaded_put v (view c.pair_at.new.pass) a.o c.pair_at.ensures.only) (ap root_in (loaded_held v (view c.pair_at.new.pass) a.o c.pair_at.ensures.only)) c.requires.joining.midway.writes
+    writes_on (shape_of a.bank.now) a.o a.own v (view c.pair_at.new.pass) c.requires.pass.1 (loaded_put v (view c.pair_at.new.pass) a.o c.pair_at.ensures.only) c.pair_at.ensures.only.boxes.references (ap root_in (read_on c)) c.requires.joining.midway.writes
 
 pub seek_in-requires-clause-writes : goal.seek_in-requires-clause-writes
 seek_in-requires-clause-writes c = writes (goal.at.seek_in-requires-clause-writes c).After-pair_at
@@ -149,28 +154,29 @@ seek_in-requires-clause-fits c = (there (goal.at.seek_in-requires-clause-fits c)
 loads : (c : After-seek_in) → OnlyLoaded (view c.args.pass.now) (view c.seek_in.new.pass)
 loads c = loaded_then (view c.args.pass.now) (view c.pair_at.new.pass) (view c.seek_in.new.pass) c.pair_at.ensures.only c.seek_in.ensures.only
 
-held_on : (c : After-seek_in) → held_words c.args.o (view c.seek_in.new.pass) ≡ held_words c.args.o (view c.args.pass.now)
-held_on c = loaded_held (view c.args.pass.now) (view c.seek_in.new.pass) c.args.o (loads c)
+held_on : (c : After-seek_in) → held_unboxed c.args.o (view c.seek_in.new.pass) ≡ held_unboxed c.args.o (view c.args.pass.now)
+held_on c = let w = c.requires.joining.midway.writes in read_same (shape_of c.args.bank.now) c.args.o (view c.args.pass.now) (view c.seek_in.new.pass) c.requires.pass.1 w.container w.locked (loads c)
 
 -- what it came to
-came : (c : After-seek_in) (key : Key) (found : Spot) → ((mid : ContainerState) → kind_of mid.content ≡ kind_by c.args.way → Represents (shape_of c.args.bank.now).texts (held_words c.args.o (view c.pair_at.new.pass)) mid → IsSought (shape_of c.args.bank.now) c.args.way c.args.own key (held_words c.args.o (view c.pair_at.new.pass)) mid.content found)
-    → IsSought (shape_of c.args.bank.now) c.args.way c.args.own key (held_words c.args.o (view c.args.pass.now)) c.requires.joining.mid found
+came : (c : After-seek_in) (key : Key) (found : Spot) → ((mid : ContainerState) → kind_of mid.content ≡ kind_by c.args.way → Represents (shape_of c.args.bank.now).texts (held_unboxed c.args.o (view c.pair_at.new.pass)) mid → IsSought (shape_of c.args.bank.now) c.args.way c.args.own key (held_unboxed c.args.o (view c.pair_at.new.pass)) mid.content found)
+    → IsSought (shape_of c.args.bank.now) c.args.way c.args.own key (held_unboxed c.args.o (view c.args.pass.now)) c.requires.joining.mid found
 came c key found is =
     let a = c.args in
     let k = shape_of a.bank.now in
     let j = c.requires.joining in
-    let same = loaded_held (view a.pass.now) (view c.pair_at.new.pass) a.o c.pair_at.ensures.only in
+    let w = j.midway.writes in
+    let same = read_same k a.o (view a.pass.now) (view c.pair_at.new.pass) c.requires.pass.1 w.container w.locked c.pair_at.ensures.only in
     let mid : ContainerState = record { content = j.mid; table = record { class = Some (class_of (table_id a.own)); fill = a.counts.fill; keys = [] } } in
     subst (λ (x : ContainerWords). IsSought k a.way a.own key x j.mid found) same (is mid j.same_kind (subst (λ (x : ContainerWords). Represents k.texts x mid) (sym same) j.midway.stands))
 
 pub returns-in-Bare-clause-only : goal.returns-in-Bare-clause-only
-returns-in-Bare-clause-only c = loaded_put (view c.args.pass.now) (view c.seek_in.new.pass) c.args.o (loads (goal.at.returns-in-Bare-clause-only c).After-seek_in)
+returns-in-Bare-clause-only c = put_written c.args.o (view c.args.pass.now) (view c.seek_in.new.pass) (loaded_put (view c.args.pass.now) (view c.seek_in.new.pass) c.args.o (loads (goal.at.returns-in-Bare-clause-only c).After-seek_in))
 
 pub returns-in-Bare-clause-joining : goal.returns-in-Bare-clause-joining
 returns-in-Bare-clause-joining c = let at = goal.at.returns-in-Bare-clause-joining c in absurd (came at.After-seek_in c.in-Some.pair.key spot.Bare c.in-Bare.ensures.spot)
 
 pub returns-in-Bare-clause-keeps : goal.returns-in-Bare-clause-keeps
-returns-in-Bare-clause-keeps c sets = same_below (table_id c.args.own) c.args.counts.fill (view c.args.pass.now) (view c.seek_in.new.pass) c.args.o (loads (goal.at.returns-in-Bare-clause-keeps c).After-seek_in)
+returns-in-Bare-clause-keeps c sets = same_below (table_id c.args.own) c.args.counts.fill (view c.args.pass.now) (view c.seek_in.new.pass) c.args.o (held_on (goal.at.returns-in-Bare-clause-keeps c).After-seek_in)
 
 -- ---- its key is there
 
@@ -189,7 +195,7 @@ put_stored-requires-clause-writes c =
     let a = c.args in
     let v = view a.pass.now in
     let s = (goal.at.put_stored-requires-clause-writes c).After-seek_in in
-    writes_on (shape_of a.bank.now) a.o a.own v (view c.seek_in.new.pass) (loaded_put v (view c.seek_in.new.pass) a.o (loads s)) (ap root_in (held_on s)) c.requires.joining.midway.writes
+    writes_on (shape_of a.bank.now) a.o a.own v (view c.seek_in.new.pass) c.requires.pass.1 (loaded_put v (view c.seek_in.new.pass) a.o (loads s)) (loads s).boxes.references (ap root_in (held_on s)) c.requires.joining.midway.writes
 
 pub put_stored-requires-clause-place : goal.put_stored-requires-clause-place
 put_stored-requires-clause-place c =
@@ -227,7 +233,7 @@ pub returns-in-At-clause-only : goal.returns-in-At-clause-only
 returns-in-At-clause-only c =
     let v = view c.args.pass.now in
     let u = view c.seek_in.new.pass in
-    put_then v u (view c.put_stored.new.pass) c.args.o (loaded_put v u c.args.o (loads (goal.at.returns-in-At-clause-only c).After-seek_in)) c.put_stored.ensures.only
+    written_then c.args.o v u (view c.put_stored.new.pass) (put_written c.args.o v u (loaded_put v u c.args.o (loads (goal.at.returns-in-At-clause-only c).After-seek_in))) c.put_stored.ensures.only
 
 pub returns-in-At-clause-joining : goal.returns-in-At-clause-joining
 returns-in-At-clause-joining c =
@@ -242,10 +248,10 @@ returns-in-At-clause-joining c =
     let e = c.put_stored.ensures in
     let stored = c.in-Some.pair.value in
     let n = slots (class_of (table_id a.own)) in
-    let only = put_then v u z a.o (loaded_put v u a.o (loads d.After-seek_in)) e.only in
+    let only = written_then a.o v u z (put_written a.o v u (loaded_put v u a.o (loads d.After-seek_in))) e.only in
     let same = held_on d.After-seek_in in
-    let other = only.others a.t (subst (λ (y : Shape). a.t < container_count y) (sym c.requires.pass.1) c.requires.other.container) (λ eq. c.requires.two (sym eq)) c.requires.other.locked c.requires.other.even in
-    let words : held_words a.o z ≡ with_puts (held_words a.o v) (stored_puts n (held_words a.o v).table c.in-At.at stored) = e.words ∙ (λ i. with_puts (same i) (stored_puts n (same i).table c.in-At.at stored)) in
+    let other = (only.others a.t (subst (λ (y : Shape). a.t < container_count y) (sym c.requires.pass.1) c.requires.other.container) (λ eq. c.requires.two (sym eq)) c.requires.other.locked c.requires.other.even).1 in
+    let words : held_unboxed a.o z ≡ with_puts (held_unboxed a.o v) (stored_puts n (held_unboxed a.o v).table c.in-At.at stored) = e.words ∙ (λ i. with_puts (same i) (stored_puts n (same i).table c.in-At.at stored)) in
     joining_there k a.o a.way a.own a.t a.table (done d.After-words_follow_a_set) a.end a.place a.counts v c.requires.joining c.requires.place any c.in-Some.pair.key stored p.1 p.0 (value_laws d.After-words_follow_a_set) p.3 p.4 c.in-At.at f.0 f.1 f.2 z only words e.writes other
 
 -- an element of a set has no value, and so nothing is put
@@ -263,10 +269,13 @@ returns-in-At-clause-keeps c sets q w less few =
     let p = there at.In-Some in
     let stored = c.in-Some.pair.value in
     let ok = stores k a.o a.way a.own a.t a.table (done at.After-words_follow_a_set) a.end a.place a.counts (view a.pass.now) j c.requires.place any c.in-Some.pair.key stored p.1 p.0 in
-    let none = no_puts stored (subst (λ (z : Kind). StoresAs z stored) (j.same_kind ∙ sets) ok) (slots (class_of (table_id a.own))) c.in-At.at (held_words a.o (view c.seek_in.new.pass)) in
+    let none = no_puts stored (subst (λ (z : Kind). StoresAs z stored) (j.same_kind ∙ sets) ok) (slots (class_of (table_id a.own))) c.in-At.at (held_unboxed a.o (view c.seek_in.new.pass)) in
     ap (λ (x : ContainerWords). entry_field (slots (class_of (table_id a.own))) x.table q w) (c.put_stored.ensures.words ∙ (none ∙ held_on at.After-seek_in))
 
 -- ---- it is new
+
+pub put_key-requires-clause-early : goal.put_key-requires-clause-early
+put_key-requires-clause-early c = (loads (goal.at.put_key-requires-clause-early c).After-seek_in).work.committed c.args.o ∙ c.requires.joining.midway.early
 
 pub put_key-requires-clause-unused : goal.put_key-requires-clause-unused
 put_key-requires-clause-unused c =
@@ -285,7 +294,14 @@ put_key-requires-clause-unused c =
     (unused_here (laws d) k a.o a.way a.own j.mid a.counts v j.midway j.same_kind j.kind_is j.count_is j.alive c.in-Free.slot c.in-Some.pair.key c.in-Some.pair.value p.3 c.seek_in.ensures.low ok p.4 f.1 f.0 (subst (λ (z : Kind). a.counts.fill < rows z (class_of (table_id a.own))) j.kind_is room))
 
 pub put_key-requires-clause-value : goal.put_key-requires-clause-value
-put_key-requires-clause-value c = (there (goal.at.put_key-requires-clause-value c).In-Some).4
+put_key-requires-clause-value c =
+    let a = c.args in
+    let at = goal.at.put_key-requires-clause-value c in
+    let p = there at.In-Some in
+    let j = c.requires.joining in
+    let stored = c.in-Some.pair.value in
+    let ok = stores (shape_of a.bank.now) a.o a.way a.own a.t a.table (done at.After-words_follow_a_set) a.end a.place a.counts (view a.pass.now) j c.requires.place any c.in-Some.pair.key stored p.1 p.0 in
+    (p.4, stores_plain (kind_of j.mid) stored ok)
 
 pub returns-in-Free-clause-joining : goal.returns-in-Free-clause-joining
 returns-in-Free-clause-joining c =
@@ -303,12 +319,12 @@ returns-in-Free-clause-joining c =
     let e = c.put_key.ensures in
     let key = c.in-Some.pair.key in
     let stored = c.in-Some.pair.value in
-    let only = put_then v u z a.o (loaded_put v u a.o (loads s)) e.only in
+    let only = written_then a.o v u z (put_written a.o v u (loaded_put v u a.o (loads s))) e.only in
     let same = held_on s in
-    let other = only.others a.t (subst (λ (y : Shape). a.t < container_count y) (sym c.requires.pass.1) c.requires.other.container) (λ eq. c.requires.two (sym eq)) c.requires.other.locked c.requires.other.even in
+    let other = (only.others a.t (subst (λ (y : Shape). a.t < container_count y) (sym c.requires.pass.1) c.requires.other.container) (λ eq. c.requires.two (sym eq)) c.requires.other.locked c.requires.other.even).1 in
     let hash = p.2 in
     let next = j.next_is in
-    let words : held_words a.o z ≡ with_entry (table_id a.own) c.in-Free.slot a.counts (pair_for k.texts j.mid key stored) (held_words a.o v) = e.words ∙ (λ i. with_entry (table_id a.own) c.in-Free.slot a.counts (record { hash = hash i; key = key; value = stored; serial = next i }) (same i)) in
+    let words : held_unboxed a.o z ≡ with_entry (table_id a.own) c.in-Free.slot a.counts (pair_for k.texts j.mid key stored) (held_unboxed a.o v) = e.words ∙ (λ i. with_entry (table_id a.own) c.in-Free.slot a.counts (record { hash = hash i; key = key; value = stored; serial = next i }) (same i)) in
     subst (λ (y : Counts). IsJoining k a.o a.way a.own a.t a.table (done d) a.end (a.place + 1) y z) (sym c.one_more.ensures)
     (joining_new k a.o a.way a.own a.t a.table (done d) a.end a.place a.counts v j c.requires.place any key stored p.1 p.0 f.1 (laws d) c.in-Free.slot p.3 c.seek_in.ensures.low p.4 f.0 z only words e.writes other)
 
@@ -330,7 +346,7 @@ returns-in-Free-clause-keeps c sets q w less few =
     let same = held_on at.After-seek_in in
     let hash = p.2 in
     let next = j.next_is in
-    let words : held_words a.o (view c.put_key.new.pass) ≡ with_entry (table_id a.own) c.in-Free.slot a.counts (pair_for k.texts j.mid key stored) (held_words a.o v) = c.put_key.ensures.words ∙ (λ i. with_entry (table_id a.own) c.in-Free.slot a.counts (record { hash = hash i; key = key; value = stored; serial = next i }) (same i)) in
+    let words : held_unboxed a.o (view c.put_key.new.pass) ≡ with_entry (table_id a.own) c.in-Free.slot a.counts (pair_for k.texts j.mid key stored) (held_unboxed a.o v) = c.put_key.ensures.words ∙ (λ i. with_entry (table_id a.own) c.in-Free.slot a.counts (record { hash = hash i; key = key; value = stored; serial = next i }) (same i)) in
     let ok = stores k a.o a.way a.own a.t a.table (done d) a.end a.place a.counts v j c.requires.place any key stored p.1 p.0 in
     let room = new_room k a.o a.way a.own a.t a.table (done d) a.end a.place a.counts v j c.requires.place any key stored p.1 p.0 f.1 in
     ap (λ (x : ContainerWords). entry_field (slots (class_of (table_id a.own))) x.table q w) words
@@ -340,4 +356,4 @@ pub returns-in-Free-clause-only : goal.returns-in-Free-clause-only
 returns-in-Free-clause-only c =
     let v = view c.args.pass.now in
     let u = view c.seek_in.new.pass in
-    put_then v u (view c.put_key.new.pass) c.args.o (loaded_put v u c.args.o (loads (goal.at.returns-in-Free-clause-only c).After-seek_in)) c.put_key.ensures.only
+    written_then c.args.o v u (view c.put_key.new.pass) (put_written c.args.o v u (loaded_put v u c.args.o (loads (goal.at.returns-in-Free-clause-only c).After-seek_in))) c.put_key.ensures.only

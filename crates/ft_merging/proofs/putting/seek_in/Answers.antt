@@ -1,9 +1,8 @@
 use Rattle.std.proofs.Common.{sym, subst}
-use Rattle.ft_trace.specs.Holds.{held_words}
+use Rattle.ft_trace.specs.Holds.{held_unboxed}
 use Rattle.ft_bank.specs.Passes.{shape_of, view}
-use Rattle.ft_bank.specs.Whole.{OnlyLoaded}
 use Rattle.ft_search.specs.declared.spots.Spot.{Spot}
-use Rattle.ft_search.proofs.Rounding.{looks_load}
+use Rattle.ft_search.proofs.Rounding.{looks_did}
 use Rattle.ft_merging.specs.Internal.JoiningSteps.{IsSought}
 use Rattle.ft_merging.proofs.JoinedSearch.{sought}
 use Rattle.ft_merging.proofs.putting.seek_in.Goals as goal
@@ -12,13 +11,13 @@ pub read_by-found-requires-clause-knows : goal.read_by-found-requires-clause-kno
 read_by-found-requires-clause-knows c = (c.requires.writes.locked, c.requires.writes.root)
 
 pub returns-clause-only : goal.returns-clause-only
-returns-clause-only c = let p = c.read_by-found.ensures.looks in subst (OnlyLoaded (view c.args.pass.now)) (sym p.2.1) (looks_load p.0 (view c.args.pass.now) p.1)
+returns-clause-only c = let p = c.read_by-found.ensures.looks in looks_did p.0 c.args.pass.now c.read_by-found.new.pass p.1 p.2
 
 pub returns-clause-spot : goal.returns-clause-spot
 returns-clause-spot c mid same stands =
     let a = c.args in
     let k = shape_of a.bank.now in
-    let x = held_words a.o (view a.pass.now) in
+    let x = held_unboxed a.o (view a.pass.now) in
     let r = c.read_by-found.ensures in
     let s = r.searched in
     let w = c.requires.writes in

@@ -27,7 +27,7 @@ returns-clause-knows c =
     let may = c.requires.may in
     let e = c.read_block-root.ensures in
     let t = c.table_named.ensures in
-    knows_loaded k a.o c.table_named.result (view a.pass.now) (view c.read_block-root.new.pass) (only (goal.at.returns-clause-knows c).After-read_block-root)
+    knows_loaded k a.o c.table_named.result (view a.pass.now) (view c.read_block-root.new.pass) c.requires.pass.1 (only (goal.at.returns-clause-knows c).After-read_block-root)
     (record {
       container = may.container;
       keyed = may.keyed;

@@ -3,6 +3,8 @@ use Rattle.std.specs.Prelude.{slice_index}
 use Rattle.ft_trace.specs.declared.Act.TheVariants.{ReadTable}
 use Rattle.ft_trace.specs.Addresses.{class_of, size, slots}
 use Rattle.ft_trace.specs.Holds.{held_words}
+use Rattle.ft_trace.specs.Kinds.{IsKeyed}
+use Rattle.ft_trace.specs.declared.Shape.{Shape}
 use Rattle.ft_trace.specs.Pictures.{entry_offset}
 use Rattle.ft_trace.specs.ContainerStates.{kind_in}
 use Rattle.ft_trace.proofs.ByKind.{keyed_low}
@@ -10,7 +12,7 @@ use Rattle.ft_bank.specs.Passes.{shape_of, view}
 use Rattle.ft_bank.specs.TableNames.{table_id}
 use Rattle.ft_bank.proofs.KnownAfterWrites.{loaded_by}
 use Rattle.ft_search.proofs.WordPlaces.{entry_is}
-use Rattle.ft_search.proofs.Puts.{few_mask, few_places}
+use Rattle.ft_search.proofs.Puts.{entry_reads, few_mask, few_places}
 use Rattle.ft_merging.proofs.reading.word_of.Goals as goal
 use Rattle.ft_merging.proofs.reading.word_of.Goals.{Start, After-mask_of}
 
@@ -63,5 +65,8 @@ pub returns-clause-found : goal.returns-clause-found
 returns-clause-found c =
     let a = c.args in
     let d = (goal.at.returns-clause-found c).After-mask_of in
+    let k = shape_of a.bank.now in
+    let v = view a.pass.now in
     c.read_table.ensures.held a.o c.requires.container c.requires.knows.0 c.requires.knows.1
-    ∙ ap (λ (n : ℕ). slice_index (held_words a.o (view a.pass.now)).table n) (lies d)
+    ∙ (ap (λ (n : ℕ). slice_index (held_words a.o v).table n) (lies d)
+    ∙ sym (entry_reads v a.o (table_id a.table) a.place a.word (subst (λ (z : Shape). IsKeyed (kind_in z.starts a.o)) (sym c.requires.pass.1) c.requires.keyed) c.requires.knows.1 c.requires.word c.requires.no_value.0 c.requires.no_value.1))

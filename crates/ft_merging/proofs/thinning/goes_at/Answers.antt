@@ -5,7 +5,7 @@ use Rattle.ft_model.specs.Worlds.{set_of}
 use Rattle.ft_layout.specs.Words.{FitsKey}
 use Rattle.ft_trace.specs.Addresses.{class_of, slots}
 use Rattle.ft_trace.specs.Carefuls.{HasLiveKey}
-use Rattle.ft_trace.specs.Holds.{held_words, known_state}
+use Rattle.ft_trace.specs.Holds.{held_unboxed, known_state}
 use Rattle.ft_trace.specs.Kinds.{IsKeyed, rows}
 use Rattle.ft_trace.specs.Pictures.{ContainerWords, root_in}
 use Rattle.ft_bank.specs.Passes.{shape_of, view}
@@ -17,6 +17,7 @@ use Rattle.ft_trace.specs.ContainerStates.{ContainerState, kind_in}
 use Rattle.ft_bank.specs.Whole.{OnlyLoaded}
 use Rattle.ft_search.proofs.Laws.{SetLaws}
 use Rattle.ft_search.proofs.Spotting.{knows_loaded}
+use Rattle.ft_merging.proofs.Ending.{read_same}
 use Rattle.ft_merging.proofs.Thinned.{hash_is, was_there}
 use Rattle.ft_merging.proofs.thinning.goes_at.Goals.{Start, After-word_of-hash}
 
@@ -54,7 +55,7 @@ laws c =
       deletes = c.words_follow_a_set.ensures.deleted;
     }
 
-stated : (c : After-word_of-hash) → HasLiveKey (slots (class_of (table_id c.args.table))) (held_words c.args.s (view c.args.pass.now)).table c.args.place c.in-Some.key × FitsKey c.in-Some.key
+stated : (c : After-word_of-hash) → HasLiveKey (slots (class_of (table_id c.args.table))) (held_unboxed c.args.s (view c.args.pass.now)).table c.args.place c.in-Some.key × FitsKey c.in-Some.key
 stated c = let is = (c.key_at.ensures.key c.in-Some.key).1 c.in-Some.is in ((is.kind_is, is.payload_is), is.fits)
 
 only : (c : After-word_of-hash) → OnlyLoaded (view c.args.pass.now) (view c.word_of-hash.new.pass)
@@ -87,8 +88,9 @@ is_in-found-requires-clause-hash c =
     let d = (goal.at.is_in-found-requires-clause-hash c).After-word_of-hash in
     let v = view a.pass.now in
     let t = stated d in
+    let w = c.requires.thinned.3.midway.writes in
     c.word_of-hash.ensures.found
-    ∙ (ap (λ (x : ContainerWords). entry_field (slots (class_of (table_id a.table))) x.table a.place 1) (loaded_held v (view c.key_at.new.pass) a.s c.key_at.ensures.only)
+    ∙ (ap (λ (x : ContainerWords). entry_field (slots (class_of (table_id a.table))) x.table a.place 1) (read_same (shape_of a.bank.now) a.s v (view c.key_at.new.pass) c.requires.pass.1 w.container w.locked c.key_at.ensures.only)
     ∙ hash_is (shape_of a.bank.now) a.s a.table a.kept (set_of (known_state a.t v).content) (set_of (known_state a.s v).content) c.requires.thinned.0 c.requires.thinned.1 a.place v c.requires.set c.requires.thinned.3 (laws d) c.requires.place c.requires.thinned.2 c.in-Some.key t.0 t.1)
 
 pub is_in-found-requires-clause-fits : goal.is_in-found-requires-clause-fits
@@ -97,7 +99,7 @@ is_in-found-requires-clause-fits c = (stated (goal.at.is_in-found-requires-claus
 pub is_in-found-requires-clause-other : goal.is_in-found-requires-clause-other
 is_in-found-requires-clause-other c ne =
     let a = c.args in
-    knows_loaded (shape_of a.bank.now) a.t (view a.pass.now) (view c.word_of-hash.new.pass) (only (goal.at.is_in-found-requires-clause-other c).After-word_of-hash) (c.requires.other ne)
+    knows_loaded (shape_of a.bank.now) a.t (view a.pass.now) (view c.word_of-hash.new.pass) c.requires.pass.1 (only (goal.at.is_in-found-requires-clause-other c).After-word_of-hash) (c.requires.other ne)
 
 pub is_in-found-requires-clause-own : goal.is_in-found-requires-clause-own
 is_in-found-requires-clause-own c e =

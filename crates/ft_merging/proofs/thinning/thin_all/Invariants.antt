@@ -4,7 +4,7 @@ use Rattle.ft_trace.specs.Holds.{known_state}
 use Rattle.ft_trace.specs.ContainerStates.{ContainerState}
 use Rattle.ft_bank.specs.Passes.{shape_of, view, IsPassOf}
 use Rattle.ft_bank.specs.PassSections.{stack_of}
-use Rattle.ft_bank.specs.Whole.{OnlyPut}
+use Rattle.ft_bank.specs.Whole.{OnlyWritten}
 use Rattle.ft_merging.specs.Internal.ThinningSteps.{IsThinned}
 use Rattle.ft_merging.proofs.thinning.thin_all.Given as goal
 
@@ -12,7 +12,7 @@ abbrev pub invariant-loop-place : goal.invariant-loop-place
 invariant-loop-place l = record {
   pass : IsPassOf l.bank l.pass;
   stack : stack_of l.pass ≡ stack_of l.initial.pass;
-  only : OnlyPut l.s (view l.initial.pass) (view l.pass);
+  only : OnlyWritten l.s (view l.initial.pass) (view l.pass);
   thinned : (to : ContainerState) → IsThinned (shape_of l.bank) l.s l.table l.kept (set_of (known_state l.t (view l.initial.pass)).content) (set_of (known_state l.s (view l.initial.pass)).content) to l.fill 0 (view l.initial.pass)
       → IsThinned (shape_of l.bank) l.s l.table l.kept (set_of (known_state l.t (view l.initial.pass)).content) (set_of (known_state l.s (view l.initial.pass)).content) to l.fill l.place (view l.pass);
 }

@@ -2,7 +2,7 @@ use Rattle.std.proofs.Common.{◌≡◌, ℕ, refl, sym, ap, ◌∙◌, subst}
 use Rattle.std.specs.Prelude.{slice_index}
 use Rattle.ft_model.specs.declared.reply.Reply.TheVariants as reply
 use Rattle.ft_trace.specs.declared.Act.TheVariants.{ReadBlock}
-use Rattle.ft_trace.specs.Holds.{held_words, known_state}
+use Rattle.ft_trace.specs.Holds.{held_unboxed, known_state}
 use Rattle.ft_trace.specs.Pictures.{ContainerWords, root_in}
 use Rattle.ft_trace.specs.ContainerStates.{ContainerState}
 use Rattle.ft_bank.specs.Passes.{shape_of, view}
@@ -12,6 +12,7 @@ use Rattle.ft_search.specs.OneEntryWrites.{Leaves, MayWriteEntries}
 use Rattle.ft_search.proofs.Calling.{loaded_wrote}
 use Rattle.ft_search.proofs.Spotting.{may_loaded}
 use Rattle.ft_merging.specs.Thinning.{thinned_state}
+use Rattle.ft_merging.proofs.Ending.{read_same}
 use Rattle.ft_merging.proofs.ThinningEnds.{fill_known, leaves_loaded, none_thinned}
 use Rattle.ft_merging.proofs.thinning.thin_by.Goals as goal
 use Rattle.ft_merging.proofs.thinning.thin_by.Goals.{After-read_block-fill}
@@ -25,13 +26,13 @@ only c =
     (loaded_by (ReadBlock c.args.s 2 c.read_block-fill.result) (view c.read_block-root.new.pass) (view c.read_block-fill.new.pass) tt c.read_block-fill.ensures.did.1)
 
 may : (c : After-read_block-fill) → MayWriteEntries (shape_of c.args.bank.now) c.args.s (view c.read_block-fill.new.pass)
-may c = may_loaded (shape_of c.args.bank.now) c.args.s (view c.args.pass.now) (view c.read_block-fill.new.pass) (only c) c.requires.may
+may c = may_loaded (shape_of c.args.bank.now) c.args.s (view c.args.pass.now) (view c.read_block-fill.new.pass) c.requires.pass.1 (only c) c.requires.may
 
 knows : (c : After-read_block-fill) (p : ℕ) → known_state p (view c.read_block-fill.new.pass) ≡ known_state p (view c.args.pass.now)
 knows c p = work_knows (view c.args.pass.now) (view c.read_block-fill.new.pass) p (only c).work
 
-same : (c : After-read_block-fill) → held_words c.args.s (view c.read_block-fill.new.pass) ≡ held_words c.args.s (view c.args.pass.now)
-same c = loaded_held (view c.args.pass.now) (view c.read_block-fill.new.pass) c.args.s (only c)
+same : (c : After-read_block-fill) → held_unboxed c.args.s (view c.read_block-fill.new.pass) ≡ held_unboxed c.args.s (view c.args.pass.now)
+same c = read_same (shape_of c.args.bank.now) c.args.s (view c.args.pass.now) (view c.read_block-fill.new.pass) c.requires.pass.1 c.requires.may.container c.requires.may.locked (only c)
 
 leaves : (c : After-read_block-fill) → Leaves c.args.s c.args.called.now reply.Done (thinned_state c.args.kept (known_state c.args.t (view c.args.pass.now)) (known_state c.args.s (view c.args.pass.now))) (view c.read_block-fill.new.pass)
 leaves c = leaves_loaded (view c.args.pass.now) (view c.read_block-fill.new.pass) (only c) c.args.s c.args.called.now reply.Done (thinned_state c.args.kept (known_state c.args.t (view c.args.pass.now)) (known_state c.args.s (view c.args.pass.now))) c.requires.leaves
@@ -45,7 +46,7 @@ filled c =
     ∙ (ap (λ (x : ContainerWords). slice_index x.block 2) (loaded_held v u s (first c))
     ∙ (fill_known (shape_of c.args.bank.now) s v c.requires.may ∙ ap (λ (z : ContainerState). z.table.fill) (sym (knows c s))))
 
-root_is : (c : After-read_block-fill) → c.read_block-root.result ≡ root_in (held_words c.args.s (view c.args.pass.now))
+root_is : (c : After-read_block-fill) → c.read_block-root.result ≡ root_in (held_unboxed c.args.s (view c.args.pass.now))
 root_is c = c.read_block-root.ensures.held c.requires.may.locked
 
 leaves_now : (c : After-read_block-fill) → Leaves c.args.s c.args.called.now reply.Done (thinned_state c.args.kept (known_state c.args.t (view c.read_block-fill.new.pass)) (known_state c.args.s (view c.read_block-fill.new.pass))) (view c.read_block-fill.new.pass)
@@ -59,7 +60,7 @@ thin_table-requires-clause-may c = may (goal.at.thin_table-requires-clause-may c
 pub thin_table-requires-clause-other : goal.thin_table-requires-clause-other
 thin_table-requires-clause-other c =
     let a = c.args in
-    may_loaded (shape_of a.bank.now) a.t (view a.pass.now) (view c.read_block-fill.new.pass) (only (goal.at.thin_table-requires-clause-other c).After-read_block-fill) c.requires.other
+    may_loaded (shape_of a.bank.now) a.t (view a.pass.now) (view c.read_block-fill.new.pass) c.requires.pass.1 (only (goal.at.thin_table-requires-clause-other c).After-read_block-fill) c.requires.other
 
 pub thin_table-requires-clause-table : goal.thin_table-requires-clause-table
 thin_table-requires-clause-table c =
@@ -80,6 +81,10 @@ returns-in-Some-clause-wrote c =
     let a = c.args in
     loaded_wrote (view a.pass.now) (view c.read_block-fill.new.pass) (only (goal.at.returns-in-Some-clause-wrote c).After-read_block-fill) a.called.now reply.Done c.thin_table.result (view c.thin_table.new.pass) c.thin_table.ensures.wrote
 
+pub returns-in-Some-clause-references : goal.returns-in-Some-clause-references
+returns-in-Some-clause-references c b =
+    c.thin_table.ensures.references b ∙ (only (goal.at.returns-in-Some-clause-references c).After-read_block-fill).boxes.references b
+
 pub returns-in-Some-clause-root : goal.returns-in-Some-clause-root
 returns-in-Some-clause-root c = c.thin_table.ensures.root ∙ ap root_in (same (goal.at.returns-in-Some-clause-root c).After-read_block-fill)
 
@@ -93,13 +98,17 @@ write_nothing-requires-clause-leaves c =
     let a = c.args in
     let d = (goal.at.write_nothing-requires-clause-leaves c).After-read_block-fill in
     let u = view c.read_block-fill.new.pass in
-    let bare : root_in (held_words a.s u) ≡ 0 = ap root_in (same d) ∙ (sym (root_is d) ∙ c.in-None.ensures.none (shape_of a.bank.now) (λ t e. c.read_block-root.ensures.table t refl e)) in
+    let bare : root_in (held_unboxed a.s u) ≡ 0 = ap root_in (same d) ∙ (sym (root_is d) ∙ c.in-None.ensures.none (shape_of a.bank.now) (λ t e. c.read_block-root.ensures.table t refl e)) in
     subst (λ (z : ContainerState). Leaves a.s a.called.now reply.Done z u) (none_thinned (shape_of a.bank.now) u a.s a.kept (known_state a.t u) ((only d).work.pass.shape ∙ c.requires.pass.1) c.read_block-fill.new.pass.possible (may d) c.requires.set bare) (leaves_now d)
 
 pub returns-in-None-clause-wrote : goal.returns-in-None-clause-wrote
 returns-in-None-clause-wrote c =
     let a = c.args in
     loaded_wrote (view a.pass.now) (view c.read_block-fill.new.pass) (only (goal.at.returns-in-None-clause-wrote c).After-read_block-fill) a.called.now reply.Done c.write_nothing.result (view c.write_nothing.new.pass) c.write_nothing.ensures.wrote
+
+pub returns-in-None-clause-references : goal.returns-in-None-clause-references
+returns-in-None-clause-references c b =
+    c.write_nothing.ensures.references b ∙ (only (goal.at.returns-in-None-clause-references c).After-read_block-fill).boxes.references b
 
 pub returns-in-None-clause-root : goal.returns-in-None-clause-root
 returns-in-None-clause-root c = c.write_nothing.ensures.root ∙ ap root_in (same (goal.at.returns-in-None-clause-root c).After-read_block-fill)

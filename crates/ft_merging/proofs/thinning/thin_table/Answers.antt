@@ -9,8 +9,10 @@ use Rattle.ft_model.specs.Worlds.{set_of}
 use Rattle.ft_trace.specs.Holds.{known_state}
 use Rattle.ft_trace.specs.ContainerStates.{ContainerState}
 use Rattle.ft_bank.specs.Passes.{shape_of, view}
+use Rattle.ft_search.proofs.Puts.{same_done}
 use Rattle.ft_search.proofs.Spotting.{may_knows}
 use Rattle.ft_search.proofs.ReadyCommits.{whole_root, whole_write}
+use Rattle.ft_new_keys.proofs.Placed.{refs_then}
 use Rattle.ft_merging.specs.Thinning.{thinned, thinned_state}
 use Rattle.ft_merging.specs.Internal.ThinningSteps.{IsThinned}
 use Rattle.ft_merging.specs.Internal.EntriesAtOnce.{MayFinishAll}
@@ -65,6 +67,14 @@ returns-clause-wrote c =
     let a = c.args in
     whole_write a.s (view a.pass.now) (view c.start_write.new.pass) (view c.thin_all.new.pass) c.start_write.result c.start_write.ensures.1 c.thin_all.ensures.only a.called.now reply.Done c.finish_entries.result (view c.finish_entries.new.pass) c.requires.leaves.changed (c.requires.may.even a.s) c.finish_entries.ensures.ends
     ((c.thin_all.ensures.thinned (thinned_state a.kept (known_state a.t (view a.pass.now)) (known_state a.s (view a.pass.now))) (begins (goal.at.returns-clause-wrote c).After-start_write)).midway.writes.root ∙ sym c.requires.table.root)
+
+pub returns-clause-references : goal.returns-clause-references
+returns-clause-references c =
+    let a = c.args in
+    let v = view a.pass.now in
+    let u = view c.thin_all.new.pass in
+    let ends = (c.thin_all.ensures.thinned (thinned_state a.kept (known_state a.t v) (known_state a.s v)) (begins (goal.at.returns-clause-references c).After-start_write)).midway in
+    refs_then v u (view c.finish_entries.new.pass) (same_done (shape_of a.bank.now) v u c.requires.pass.1 c.thin_all.ensures.pass.1 c.requires.may.boxes ends.writes.boxes) c.finish_entries.ensures.references
 
 pub returns-clause-root : goal.returns-clause-root
 returns-clause-root c =

@@ -1,7 +1,4 @@
-use Rattle.std.proofs.Common.{◌≡◌, ◌<◌, ℕ, ◌+◌, ◌-◌, refl, sym, ap, ◌∙◌, subst, arith}
-use Rattle.ft_layout.specs.Sizes.{table_size}
-use Rattle.ft_layout.specs.Containers.{class_mask}
-use Rattle.ft_layout.specs.Tables.{table_length}
+use Rattle.std.proofs.Common.{◌≡◌, ◌<◌, ℕ, ◌+◌, refl, sym, ap, ◌∙◌, subst, arith}
 use Rattle.ft_layout.proofs.FieldLaws.{sizes_of_class}
 use Rattle.ft_trace.specs.declared.Act.TheVariants.{PutFresh}
 use Rattle.ft_trace.specs.declared.View.{View}
@@ -9,11 +6,10 @@ use Rattle.ft_trace.specs.Acts.{mem}
 use Rattle.ft_trace.specs.Addresses.{class_of, size}
 use Rattle.ft_trace.specs.Holds.{in_hand}
 use Rattle.ft_trace.proofs.Pieces.{table_long}
-use Rattle.ft_bank.specs.Passes.{shape_of, view}
+use Rattle.ft_bank.specs.Passes.{view}
 use Rattle.ft_bank.specs.TableNames.{table_id}
 use Rattle.ft_bank.proofs.TableAddresses.{class_is}
 use Rattle.ft_table_calls.proofs.Rooting.{filled_by, filled_same, filled_then}
-use Rattle.ft_search.proofs.Puts.{table_class}
 use Rattle.ft_new_keys.specs.Fresh.{BlankBelow}
 use Rattle.ft_new_keys.proofs.FilledTables.{blank_all, blank_next, table_is_long}
 use Rattle.ft_new_keys.proofs.filling.blank.Goals as goal

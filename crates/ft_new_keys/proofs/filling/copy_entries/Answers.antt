@@ -1,10 +1,11 @@
-use Rattle.std.proofs.Common.{◌≡◌, ℕ, ◌*◌, ◌<◌, ◌≤◌, refl, sym, ap, ◌∙◌, subst, rules}
+use Rattle.std.proofs.Common.{◌≡◌, ℕ, ◌≤◌, refl, sym, ap, ◌∙◌, subst, rules}
 use Rattle.ft_layout.specs.Containers.{class_mask}
-use Rattle.ft_layout.specs.Tables.{dict_room}
 use Rattle.ft_trace.specs.Addresses.{class_of}
+use Rattle.ft_trace.specs.ContainerStates.{kind_in}
 use Rattle.ft_trace.specs.Holds.{known_state, in_hand}
+use Rattle.ft_trace.specs.Kinds.{rows}
 use Rattle.ft_bank.specs.declared.pass.Pass.{Pass}
-use Rattle.ft_bank.specs.Passes.{shape_of, view, IsPassOf}
+use Rattle.ft_bank.specs.Passes.{shape_of, view}
 use Rattle.ft_bank.specs.TableNames.{table_id}
 use Rattle.ft_bank.proofs.TableAddresses.{class_is}
 use Rattle.ft_search.proofs.WordPlaces.{mask_is}
@@ -23,6 +24,7 @@ rebuild_in-requires-clause-can c =
     record {
       pass = c.requires.pass;
       container = keyed.container;
+      keyed = keyed.keyed;
       locked = keyed.locked;
       even = keyed.even;
       old_in = keyed.table_in a.old refl;
@@ -39,8 +41,8 @@ rebuild_in-requires-clause-mask c = (mask_is c.args.table.class c.mask_of-mask.r
 pub rebuild_in-requires-clause-fill : goal.rebuild_in-requires-clause-fill
 rebuild_in-requires-clause-fill c =
     let a = c.args in
-    subst (λ (n : ℕ). n ≤ dict_room c.mask_of-old_mask.result) (sym c.requires.fill)
-    (old_fits (shape_of a.bank.now) a.o a.old (view a.pass.now) c.requires.keyed c.requires.pass.1 a.pass.now.possible a.way c.requires.way c.mask_of-old_mask.result c.mask_of-old_mask.ensures)
+    subst (λ (n : ℕ). n ≤ rows (kind_in (shape_of a.bank.now).starts a.o) (class_of (table_id a.old))) (sym c.requires.fill)
+    (old_fits (shape_of a.bank.now) a.o a.old (view a.pass.now) c.requires.keyed c.requires.pass.1 a.pass.now.possible a.way c.requires.way)
 
 pub returns-clause-filled : goal.returns-clause-filled
 returns-clause-filled c =

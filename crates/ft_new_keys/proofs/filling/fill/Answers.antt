@@ -1,12 +1,10 @@
-use Rattle.std.proofs.Common.{◌≡◌, ◌≤◌, ℕ, ◌∷◌, Option, Some, None, refl, sym, ap, ◌∙◌, subst}
+use Rattle.std.proofs.Common.{◌≡◌, ◌≤◌, ℕ, ◌∷◌, Option, sym, ap, ◌∙◌, subst}
 use Rattle.ft_model.specs.Worlds.{length_of}
 use Rattle.ft_layout.specs.Containers.{StandsAs}
-use Rattle.ft_trace.specs.declared.View.{View}
-use Rattle.ft_trace.specs.Acts.{stage}
 use Rattle.ft_trace.specs.Addresses.{class_of}
-use Rattle.ft_trace.specs.Holds.{held_words, in_hand, known_state}
+use Rattle.ft_trace.specs.Holds.{held_unboxed, in_hand, known_state}
 use Rattle.ft_trace.specs.Kinds.{rows, IsKeyed}
-use Rattle.ft_trace.specs.ContainerStates.{ContainerState, kind_in}
+use Rattle.ft_trace.specs.ContainerStates.{ContainerState}
 use Rattle.ft_bank.specs.declared.table.Table.{Table}
 use Rattle.ft_bank.specs.Passes.{shape_of, view}
 use Rattle.ft_bank.specs.TableNames.{table_id, root_for}
@@ -56,8 +54,8 @@ returns-in-None-clause-filled c =
     let v = view a.pass.now in
     let x = known_state a.o v in
     let keyed = c.requires.keyed in
-    let head = c.words_are_of_one_content.ensures.head k.texts (held_words a.o v).block (0 ∷ 0 ∷ (held_words a.o v).table) x.table x.content keyed.stands in
-    let none = no_class (held_words a.o v).block x.table.class (length_of x.content) x.table.fill _ head (keyed.root ∙ ap root_for c.in-None.is) in
-    let stands = subst (λ (z : Option ℕ). StandsAs k.texts (held_words a.o v).block (0 ∷ 0 ∷ (held_words a.o v).table) (record { class = z; fill = x.table.fill; keys = x.table.keys }) x.content) none keyed.stands in
-    bare_filled c.changed_words_are_of_a_table.ensures.blank k.texts (held_words a.o v).block (0 ∷ 0 ∷ (held_words a.o v).table) (class_of (table_id a.table)) x.table.fill x.table.keys x.content (in_hand (table_id a.table) (view c.blank.new.pass)) (table_class k a.table c.requires.table)
+    let head = c.words_are_of_one_content.ensures.head k.texts (held_unboxed a.o v).block (0 ∷ 0 ∷ (held_unboxed a.o v).table) x.table x.content keyed.stands in
+    let none = no_class (held_unboxed a.o v).block x.table.class (length_of x.content) x.table.fill _ head (keyed.root ∙ ap root_for c.in-None.is) in
+    let stands = subst (λ (z : Option ℕ). StandsAs k.texts (held_unboxed a.o v).block (0 ∷ 0 ∷ (held_unboxed a.o v).table) (record { class = z; fill = x.table.fill; keys = x.table.keys }) x.content) none keyed.stands in
+    bare_filled c.changed_words_are_of_a_table.ensures.blank k.texts (held_unboxed a.o v).block (0 ∷ 0 ∷ (held_unboxed a.o v).table) (class_of (table_id a.table)) x.table.fill x.table.keys x.content (in_hand (table_id a.table) (view c.blank.new.pass)) (table_class k a.table c.requires.table)
     (subst IsKeyed (sym (kind_is k v a.o c.requires.pass.1 a.pass.now.possible keyed.locked)) keyed.keyed) stands c.blank.ensures.blank

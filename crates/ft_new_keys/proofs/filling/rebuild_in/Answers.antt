@@ -1,5 +1,4 @@
-use Rattle.std.proofs.Common.{sym, subst}
-use Rattle.ft_bank.specs.declared.bank.Bank.{Bank}
+use Rattle.std.proofs.Common.{subst}
 use Rattle.ft_bank.specs.Passes.{IsPassOf}
 use Rattle.ft_new_keys.proofs.FilledTables.{ran_fresh}
 use Rattle.ft_new_keys.proofs.filling.rebuild_in.Goals as goal

@@ -1,23 +1,26 @@
-use Rattle.std.proofs.Common.{◌≡◌, ◌≢◌, ℕ, suc, ◌+◌, ◌^◌, ◌<◌, ◌≤◌, List, [], ◌∷◌, filter, Option, Some, None, refl, sym, ap, ◌∙◌, subst, arith}
+use Rattle.std.proofs.Common.{◌≡◌, ◌≢◌, false, ℕ, suc, ◌+◌, ◌^◌, ◌<◌, List, [], ◌∷◌, filter, Some, None, sym, ap, ◌∙◌, subst, arith}
 use Rattle.std.specs.Prelude.{All, slice_set}
 use Rattle.ft_model.specs.declared.content.Content.{Content}
 use Rattle.ft_model.specs.declared.script.Kind.{Kind}
 use Rattle.ft_model.specs.Worlds.{kind_of, length_of}
-use Rattle.ft_layout.specs.declared.slot.Pair.{Pair}
 use Rattle.ft_layout.specs.Containers.{class_mask}
 use Rattle.ft_layout.specs.Tables.{UsedEntry, is_live, hash_of}
 use Rattle.ft_keys.specs.Ways.{IsTableOf}
+use Rattle.ft_trace.specs.declared.Shape.{Shape}
 use Rattle.ft_trace.specs.declared.View.{View}
-use Rattle.ft_trace.specs.Addresses.{class_of, slots}
-use Rattle.ft_trace.specs.Holds.{held_words, known_state, in_hand}
+use Rattle.ft_trace.specs.Addresses.{container_count, class_of, slots}
+use Rattle.ft_trace.specs.Holds.{held_words, held_unboxed, known_state, in_hand}
 use Rattle.ft_trace.specs.Kinds.{rows}
 use Rattle.ft_trace.specs.Pictures.{ContainerWords, root_in}
-use Rattle.ft_trace.specs.ContainerStates.{ContainerState, changes, kind_in}
+use Rattle.ft_trace.specs.ContainerStates.{ContainerState, kind_in}
 use Rattle.ft_bank.specs.Passes.{shape_of, view}
 use Rattle.ft_bank.specs.TableNames.{table_id}
-use Rattle.ft_bank.specs.Whole.{OnlyPut}
+use Rattle.ft_bank.specs.Whole.{OnlyLoaded, OnlyWritten}
 use Rattle.ft_bank.proofs.TableAddresses.{class_is}
-use Rattle.ft_bank.proofs.KnownAfterWrites.{loaded_held, loaded_put, put_then, work_knows}
+use Rattle.ft_bank.proofs.KnownAfterWrites.{loaded_put, put_written, written_then}
+use Rattle.ft_trace.specs.Acts.{has_committed}
+use Rattle.ft_trace.proofs.Cases.{hit}
+use Rattle.ft_search.proofs.Puts.{same_done, writes_on}
 use Rattle.ft_search.specs.Held.{IsHeldAt}
 use Rattle.ft_search.specs.Rounds.{kind_by}
 use Rattle.ft_search.specs.OneEntryWrites.{Leaves, WritesEntries}
@@ -28,10 +31,10 @@ use Rattle.ft_new_keys.specs.Fresh.{IsFilledWith}
 use Rattle.ft_new_keys.specs.KeyGrowth.{MayGrowKeyed, IsFreeFor}
 use Rattle.ft_new_keys.specs.Placing.{AreCounts, with_key}
 use Rattle.ft_new_keys.specs.Internal.Laying.{IsUnused, with_entry}
-use Rattle.ft_new_keys.proofs.FinishedKeys.{Since, adds_leaves, key_finishes, since_root}
-use Rattle.ft_new_keys.proofs.Grown.{grow_filled, grown_wrote, leaves_filled, same_filled, filled_has}
-use Rattle.ft_new_keys.proofs.Keyed.{counts_known, use_known}
-use Rattle.ft_new_keys.proofs.Placed.{Fresh, PlaceLaws, pair_for, place_unused, places_key, use_with}
+use Rattle.ft_new_keys.proofs.FinishedKeys.{adds_leaves, key_finishes, since_root}
+use Rattle.ft_new_keys.proofs.Grown.{grow_filled, grown_wrote, leaves_filled, same_filled, words_filled, filled_has}
+use Rattle.ft_new_keys.proofs.Keyed.{counts_known}
+use Rattle.ft_new_keys.proofs.Placed.{Fresh, PlaceLaws, pair_for, place_unused, places_key, refs_then, stores_plain, use_with}
 use Rattle.ft_new_keys.proofs.Rooted.{absent_in, filled_says, fresh_rooted, shut_rooted}
 use Rattle.ft_new_keys.proofs.Wanted.{grown_use}
 use Rattle.ft_new_keys.proofs.growth.add_in_new.Goals as goal
@@ -55,7 +58,7 @@ fill-requires-clause-fill c =
     let a = c.args in
     let k = shape_of a.bank.now in
     let v = view a.pass.now in
-    let head = c.words_are_of_one_content.ensures.head k.texts (held_words a.o v).block (0 ∷ 0 ∷ (held_words a.o v).table) (known_state a.o v).table (known_state a.o v).content c.requires.may.keyed.stands in
+    let head = c.words_are_of_one_content.ensures.head k.texts (held_unboxed a.o v).block (0 ∷ 0 ∷ (held_unboxed a.o v).table) (known_state a.o v).table (known_state a.o v).content c.requires.may.keyed.stands in
     sym c.requires.counts.1 ∙ head.fill_is
 
 pub fill-requires-clause-room : goal.fill-requires-clause-room
@@ -72,7 +75,7 @@ grow c =
     let a = c.args in
     grow_filled (shape_of a.bank.now) a.o a.old a.table (view a.pass.now) (view c.fill.new.pass) c.requires.pass.1 c.fill.ensures.only c.requires.may
 
-same : (c : After-fill) → (held_words c.args.o (view c.fill.new.pass) ≡ held_words c.args.o (view c.args.pass.now)) × (known_state c.args.o (view c.fill.new.pass) ≡ known_state c.args.o (view c.args.pass.now))
+same : (c : After-fill) → (held_unboxed c.args.o (view c.fill.new.pass) ≡ held_unboxed c.args.o (view c.args.pass.now)) × (known_state c.args.o (view c.fill.new.pass) ≡ known_state c.args.o (view c.args.pass.now))
 same c =
     let a = c.args in
     same_filled (shape_of a.bank.now) a.o a.old (view a.pass.now) (view c.fill.new.pass) c.requires.pass.1 c.fill.ensures.only c.requires.may.keyed
@@ -85,7 +88,7 @@ filled c =
 absent : (c : After-fill) → IsHeldAt (known_state c.args.o (view c.fill.new.pass)).content c.args.key None
 absent c = subst (λ (z : ContainerState). IsHeldAt z.content c.args.key None) (sym (same c).1) c.requires.absent
 
-counts : (c : After-fill) → AreCounts (held_words c.args.o (view c.fill.new.pass)).block c.args.counts
+counts : (c : After-fill) → AreCounts (held_unboxed c.args.o (view c.fill.new.pass)).block c.args.counts
 counts c = subst (λ (z : ContainerWords). AreCounts z.block c.args.counts) (sym (same c).0) c.requires.counts
 
 kind_eq : (c : After-fill) → kind_of (known_state c.args.o (view c.fill.new.pass)).content ≡ kind_in (shape_of c.args.bank.now).starts c.args.o
@@ -114,10 +117,14 @@ free_slot-slot-requires-clause-absent c =
 
 -- the words once the root names the table
 abbrev rooted : After-fill → ContainerWords
-rooted c = record { block = slice_set (held_words c.args.o (view c.fill.new.pass)).block 0 (suc (table_id c.args.table)); table = in_hand (table_id c.args.table) (view c.fill.new.pass) }
+rooted c = record { block = slice_set (held_unboxed c.args.o (view c.fill.new.pass)).block 0 (suc (table_id c.args.table)); table = in_hand (table_id c.args.table) (view c.fill.new.pass) }
 
 abbrev all : After-fill → Counts
 all c = record { count = c.args.counts.count; fill = c.args.counts.count; next = c.args.counts.next }
+
+-- the words after looks
+looked : (c : After-fill) (y z : View) → y.shape ≡ shape_of c.args.bank.now → WritesEntries (shape_of c.args.bank.now) c.args.o c.args.table y → OnlyLoaded y z → held_unboxed c.args.o z ≡ held_unboxed c.args.o y
+looked c y z shape writes l = l.unboxed c.args.o (subst (λ (k : Shape). c.args.o < container_count k) (sym shape) writes.container) writes.locked
 
 -- what the new key finds there
 fresh : (c : After-fill) (y : ContainerWords) (slot hash : ℕ) → y ≡ rooted c → hash ≡ hash_of (shape_of c.args.bank.now).texts c.args.key → hash < 2 ^ 64 → IsFreeFor (shape_of c.args.bank.now).texts c.args.way c.args.table.class c.args.key y.table slot → Fresh (shape_of c.args.bank.now).texts (rooted c) (table_id c.args.table) slot (all c) (known_state c.args.o (view c.fill.new.pass)).content c.args.key c.args.stored
@@ -143,15 +150,36 @@ put_key-requires-clause-unused c =
     let x = view c.fill.new.pass in
     let y = view c.begin_in.new.pass in
     let n = slots (class_of (table_id a.table)) in
-    let words = loaded_held y (view c.free_slot-slot.new.pass) a.o c.free_slot-slot.ensures.only ∙ c.begin_in.ensures.words in
+    let words = looked d y (view c.free_slot-slot.new.pass) c.begin_in.ensures.pass.1 c.begin_in.ensures.writes c.free_slot-slot.ensures.only ∙ c.begin_in.ensures.words in
     subst (λ (z : Kind × ContainerWords). IsUnused n (rows z.0 (class_of (table_id a.table))) z.1.table c.free_slot-slot.result a.counts.count) (λ i. (kind_eq d i, sym words i))
-    (place_unused (laws d) k.texts (rooted d) (table_id a.table) c.free_slot-slot.result (all d) (known_state a.o x).content a.key a.stored (fresh d (held_words a.o y) c.free_slot-slot.result c.hash_of-hash.result c.begin_in.ensures.words c.hash_of-hash.ensures c.hash_of-hash.type_inv c.free_slot-slot.ensures.slot))
+    (place_unused (laws d) k.texts (rooted d) (table_id a.table) c.free_slot-slot.result (all d) (known_state a.o x).content a.key a.stored (fresh d (held_unboxed a.o y) c.free_slot-slot.result c.hash_of-hash.result c.begin_in.ensures.words c.hash_of-hash.ensures c.hash_of-hash.type_inv c.free_slot-slot.ensures.slot))
 
-puts : (c : After-put_key) → OnlyPut c.args.o (view c.begin_in.new.pass) (view c.put_key.new.pass)
-puts c =
+pub put_key-requires-clause-writes : goal.put_key-requires-clause-writes
+put_key-requires-clause-writes c =
+    let o = c.args.o in
     let y = view c.begin_in.new.pass in
     let z = view c.free_slot-slot.new.pass in
-    put_then y z (view c.put_key.new.pass) c.args.o (loaded_put y z c.args.o c.free_slot-slot.ensures.only) c.put_key.ensures.only
+    let l = c.free_slot-slot.ensures.only in
+    writes_on (shape_of c.args.bank.now) o c.args.table y z c.begin_in.ensures.pass.1 (loaded_put y z o l) l.boxes.references
+    (ap root_in (looked (goal.at.put_key-requires-clause-writes c).After-fill y z c.begin_in.ensures.pass.1 c.begin_in.ensures.writes l)) c.begin_in.ensures.writes
+
+pub put_key-requires-clause-early : goal.put_key-requires-clause-early
+put_key-requires-clause-early c =
+    let o = c.args.o in
+    let b = c.begin_in.ensures.begins in
+    c.free_slot-slot.ensures.only.work.committed o
+    ∙ (b.only.work.committed o
+    ∙ (ap (λ (z : View). has_committed o z.log) b.is ∙ hit o false (has_committed o (view c.fill.new.pass).log)))
+
+pub put_key-requires-clause-value : goal.put_key-requires-clause-value
+put_key-requires-clause-value c = (c.requires.value, stores_plain (kind_by c.args.way) c.args.stored c.requires.stores)
+
+puts : (c : After-put_key) → OnlyWritten c.args.o (view c.begin_in.new.pass) (view c.put_key.new.pass)
+puts c =
+    let o = c.args.o in
+    let y = view c.begin_in.new.pass in
+    let z = view c.free_slot-slot.new.pass in
+    written_then o y z (view c.put_key.new.pass) (put_written o y z (loaded_put y z o c.free_slot-slot.ensures.only)) c.put_key.ensures.only
 
 pub finish_entry-requires-clause-may : goal.finish_entry-requires-clause-may
 finish_entry-requires-clause-may c =
@@ -164,25 +192,25 @@ finish_entry-requires-clause-may c =
     let e = c.put_key.ensures in
     let p = (goal.at.finish_entry-requires-clause-may c).After-put_key in
     let d = (goal.at.finish_entry-requires-clause-may c).After-fill in
-    let did = c.begin_in.ensures.did in
+    let b = c.begin_in.ensures.begins in
     let y = view c.begin_in.new.pass in
     let content = (known_state a.o x).content in
-    let words = loaded_held y (view c.free_slot-slot.new.pass) a.o c.free_slot-slot.ensures.only ∙ c.begin_in.ensures.words in
+    let words = looked d y (view c.free_slot-slot.new.pass) c.begin_in.ensures.pass.1 c.begin_in.ensures.writes c.free_slot-slot.ensures.only ∙ c.begin_in.ensures.words in
     let mine = pair d c.hash_of-hash.result c.hash_of-hash.ensures in
-    let made : with_entry t c.free_slot-slot.result (all d) (pair_for k.texts content a.key a.stored) (rooted d) ≡ held_words a.o u = (λ i. with_entry t c.free_slot-slot.result (all d) (mine i) (sym words i)) ∙ sym e.words in
+    let made : with_entry t c.free_slot-slot.result (all d) (pair_for k.texts content a.key a.stored) (rooted d) ≡ held_unboxed a.o u = (λ i. with_entry t c.free_slot-slot.result (all d) (mine i) (sym words i)) ∙ sym e.words in
     let many = (counts_known (laws d).head k a.o a.old x a.counts (grow d).keyed (counts d)).0 in
     let first = adds_leaves a.o a.called.now a.said.now a.key a.stored v c.requires.adds c.requires.few _ (grown_use (known_state a.o v).content (class_of t) (known_state a.o v).table c.requires.takes) in
     let leaves : Leaves a.o a.called.now a.said.now (record { content = with_key content a.key a.stored; table = use_with (class_of t) (a.counts.count + 1) }) x =
     subst (λ (z : Content × ℕ). Leaves a.o a.called.now a.said.now (record { content = with_key z.0 a.key a.stored; table = use_with (class_of t) (z.1 + 1) }) x) (λ i. (sym (ap (λ (z : ContainerState). z.content) (same d).1) i, (ap (λ (z : ContainerState). length_of z.content) (sym (same d).1) ∙ sym many) i))
     (leaves_filled a.o a.called.now a.said.now _ v x c.fill.ensures.only first) in
-    key_finishes a.o x u (since_root a.o t (root_in (held_words a.o x)) x (view c.begin_in.new.pass) u did.0 did.1.1 (puts p)) k a.table a.counts.count a.called.now a.said.now _ leaves c.fill.ensures.pass.1 c.requires.may.keyed.container (grow d).left
+    key_finishes a.o x u (since_root a.o t (root_in (held_words a.o x)) x b.rooted u b.found b.is (written_then a.o b.rooted y u b.only (puts p))) k a.table a.counts.count a.called.now a.said.now _ leaves c.fill.ensures.pass.1 c.requires.may.keyed.container (grow d).left
     (λ found class has owed.
     let owes = (grow d).owed in
     let is : class_of t ≡ class = omega (arith, owed, owes) in
     c.requires.adds.takes found (filled_has v x c.fill.ensures.only found has) ∙ (c.requires.takes ∙ ap (λ (n : ℕ). Some n) is))
     (kind_eq d) (known_state a.o x).table
     (subst (λ (z : ContainerWords). Changing k.texts t z (known_state a.o x) a.counts.count [] (record { content = with_key content a.key a.stored; table = use_with (class_of t) (a.counts.count + 1) })) made
-    (places_key (laws d) k.texts (rooted d) t c.free_slot-slot.result (all d) content a.key a.stored (fresh d (held_words a.o y) c.free_slot-slot.result c.hash_of-hash.result c.begin_in.ensures.words c.hash_of-hash.ensures c.hash_of-hash.type_inv c.free_slot-slot.ensures.slot) (shut_rooted (laws d).first_pair (laws d).first_element (laws d).head k a.o a.old a.table x (grow d) c.fill.ensures.pass.1 c.fill.new.pass.possible (filled d)) (known_state a.o x).table))
+    (places_key (laws d) k.texts (rooted d) t c.free_slot-slot.result (all d) content a.key a.stored (fresh d (held_unboxed a.o y) c.free_slot-slot.result c.hash_of-hash.result c.begin_in.ensures.words c.hash_of-hash.ensures c.hash_of-hash.type_inv c.free_slot-slot.ensures.slot) (shut_rooted (laws d).first_pair (laws d).first_element (laws d).head k a.o a.old a.table x (grow d) c.fill.ensures.pass.1 c.fill.new.pass.possible (filled d)) (known_state a.o x).table))
     e.writes.root
 
 pub returns-clause-wrote : goal.returns-clause-wrote
@@ -192,11 +220,17 @@ returns-clause-wrote c =
     let x = view c.fill.new.pass in
     let p = (goal.at.returns-clause-wrote c).After-put_key in
     let d = (goal.at.returns-clause-wrote c).After-fill in
-    let did = c.begin_in.ensures.did in
-    let root : root_in (held_words a.o x) ≡ root_in (held_words a.o v) = ap root_in (same d).0 in
-    grown_wrote a.o (table_id a.table) a.called.now a.said.now c.finish_entry.result did.0 v x (view c.begin_in.new.pass) (view c.put_key.new.pass) (view c.finish_entry.new.pass) c.requires.adds.changed c.fill.ensures.only root (λ is. c.requires.other (sym root ∙ is)) (grow d).keyed.even did.1.1 did.2 (puts p) c.put_key.ensures.writes.root c.finish_entry.ensures.ends
+    let words = words_filled (shape_of a.bank.now) a.o a.old v x c.requires.pass.1 c.fill.ensures.only c.requires.may.keyed in
+    grown_wrote a.o a.table a.called.now a.said.now c.finish_entry.result v x (view c.begin_in.new.pass) (view c.put_key.new.pass) (view c.finish_entry.new.pass) c.requires.adds.changed c.fill.ensures.only words (λ is. c.requires.other (sym (ap root_in words) ∙ is)) (grow d).keyed.even c.begin_in.ensures.begins (puts p) c.put_key.ensures.writes.root c.finish_entry.ensures.ends
+
+pub returns-clause-references : goal.returns-clause-references
+returns-clause-references c =
+    let v = view c.args.pass.now in
+    let u = view c.put_key.new.pass in
+    let e = c.put_key.ensures in
+    refs_then v u (view c.finish_entry.new.pass) (same_done (shape_of c.args.bank.now) v u c.requires.pass.1 e.pass.1 c.requires.may.boxes e.writes.boxes) c.finish_entry.ensures.references
 
 pub returns-clause-root : goal.returns-clause-root
 returns-clause-root c =
     let a = c.args in
-    subst (λ (n : ℕ). root_in (held_words n (view c.finish_entry.new.pass)) ≡ root_in (held_words n (view c.put_key.new.pass))) c.requires.adds.changed c.finish_entry.ensures.ends.root ∙ c.put_key.ensures.writes.root
+    subst (λ (n : ℕ). root_in (held_unboxed n (view c.finish_entry.new.pass)) ≡ root_in (held_unboxed n (view c.put_key.new.pass))) c.requires.adds.changed c.finish_entry.ensures.ends.root ∙ c.put_key.ensures.writes.root

@@ -1,12 +1,11 @@
-use Rattle.std.proofs.Common.{◌≡◌, ◌≢◌, ℕ, zero, suc, ◌<◌, Bool, true, false, true≢false, cond, List, [], ◌∷◌, length, filter, None, refl, sym, ap, ◌∙◌, subst, arith}
-use Rattle.std.specs.Prelude.{All, IsTrue, slice_index_or}
+use Rattle.std.proofs.Common.{◌≡◌, ◌≢◌, ℕ, zero, suc, ◌<◌, Bool, true, false, true≢false, cond, List, [], ◌∷◌, length, filter, None, refl, sym, subst, arith}
+use Rattle.std.specs.Prelude.{All, slice_index_or}
 use Rattle.ft_model.specs.declared.data.Key.{Key}
 use Rattle.ft_layout.specs.Tables.{UsedEntry, is_live}
 use Rattle.ft_keys.specs.declared.search.Found.{Found}
 use Rattle.ft_keys.specs.Searches.{Finds}
-use Rattle.ft_bank.specs.Passes.{shape_of, view}
-use Rattle.ft_bank.specs.Whole.{OnlyLoaded}
-use Rattle.ft_search.proofs.Rounding.{looks_load}
+use Rattle.ft_bank.specs.Passes.{shape_of}
+use Rattle.ft_search.proofs.Rounding.{looks_did}
 use Rattle.ft_new_keys.proofs.growth.free_slot.Goals as goal
 
 still : (key : Key) (e : UsedEntry) (es : List UsedEntry) (b : Bool) → All (λ (x : UsedEntry). x.key ≢ key) (cond b (e ∷ es) es) → All (λ (x : UsedEntry). x.key ≢ key) es
@@ -37,4 +36,4 @@ unreachable-requires c =
 pub returns-clause-only : goal.returns-clause-only
 returns-clause-only c =
     let p = c.read_in-found.ensures.looks in
-    subst (OnlyLoaded (view c.args.pass.now)) (sym p.2.1) (looks_load p.0 (view c.args.pass.now) p.1)
+    looks_did p.0 c.args.pass.now c.read_in-found.new.pass p.1 p.2

@@ -1,12 +1,11 @@
-use Rattle.std.proofs.Common.{◌≡◌, ◌≢◌, ◌<◌, ◌^◌, ◌+◌, ℕ, suc, false, Option, Some, None, refl, sym, ap, ◌∙◌, subst, arith}
+use Rattle.std.proofs.Common.{◌≡◌, ◌≢◌, ◌<◌, ◌^◌, ◌+◌, ℕ, suc, false, Some, None, refl, sym, ap, ◌∙◌, subst, arith}
 use Rattle.std.specs.Prelude.{nat_lt}
-use Rattle.ft_model.specs.Worlds.{kind_of, length_of, serial_of}
+use Rattle.ft_model.specs.Worlds.{length_of, serial_of}
 use Rattle.ft_trace.specs.Addresses.{class_of}
-use Rattle.ft_trace.specs.Holds.{held_words, known_state}
+use Rattle.ft_trace.specs.Holds.{held_unboxed, known_state}
 use Rattle.ft_trace.specs.Kinds.{rows}
 use Rattle.ft_trace.specs.Pictures.{ContainerWords, root_in}
 use Rattle.ft_trace.specs.ContainerStates.{ContainerState, changes}
-use Rattle.ft_bank.specs.declared.takings.Took.TheVariants as took
 use Rattle.ft_bank.specs.Passes.{shape_of, view}
 use Rattle.ft_bank.specs.TableNames.{table_id, root_for}
 use Rattle.ft_bank.proofs.TableAddresses.{class_is}
@@ -15,10 +14,10 @@ use Rattle.ft_table_calls.proofs.Rooting.{taken_out}
 use Rattle.ft_search.specs.Held.{IsHeldAt}
 use Rattle.ft_search.specs.Rounds.{kind_by}
 use Rattle.ft_search.proofs.Changing.{kind_is}
-use Rattle.ft_new_keys.specs.KeyGrowth.{AddsKey, KnowsKeyed, MayGrowKeyed, key_takes, most_of}
+use Rattle.ft_new_keys.specs.KeyGrowth.{MayGrowKeyed, key_takes, most_of}
 use Rattle.ft_new_keys.specs.Placing.{AreCounts}
 use Rattle.ft_new_keys.proofs.Keyed.{counts_known, fresh_other}
-use Rattle.ft_new_keys.proofs.Taken.{adds_later, tried_has, tried_knows, tried_may, tried_words}
+use Rattle.ft_new_keys.proofs.Taken.{adds_later, tried_has, tried_may, tried_words}
 use Rattle.ft_new_keys.proofs.Wanted.{passes_not, takes_room}
 use Rattle.ft_new_keys.proofs.keys.add_in_taken.Goals as goal
 use Rattle.ft_new_keys.proofs.keys.add_in_taken.Goals.{After-take, In-Taken}
@@ -30,7 +29,7 @@ few_is c =
     let few = c.requires.few in
     omega (arith, n, few)
 
-same : (c : In-Taken) → (held_words c.args.o (view c.take.new.pass) ≡ held_words c.args.o (view c.args.pass.now)) × (known_state c.args.o (view c.take.new.pass) ≡ known_state c.args.o (view c.args.pass.now))
+same : (c : In-Taken) → (held_unboxed c.args.o (view c.take.new.pass) ≡ held_unboxed c.args.o (view c.args.pass.now)) × (known_state c.args.o (view c.take.new.pass) ≡ known_state c.args.o (view c.args.pass.now))
 same c =
     let a = c.args in
     let e = c.in-Taken.ensures in
@@ -43,7 +42,7 @@ grow c =
     let x = e.did.6 in
     tried_may _ (view a.pass.now) (view c.take.new.pass) e.same e.keeps (shape_of a.bank.now) a.o a.old c.in-Taken.table a.class c.requires.pass.1 c.requires.may x.0 x.1 x.3 x.4
 
-other : (c : In-Taken) → root_in (held_words c.args.o (view c.take.new.pass)) ≢ suc (table_id c.in-Taken.table)
+other : (c : In-Taken) → root_in (held_unboxed c.args.o (view c.take.new.pass)) ≢ suc (table_id c.in-Taken.table)
 other c =
     let a = c.args in
     let g = grow c in
@@ -102,9 +101,9 @@ retire_old-requires-clause-out c t is =
     let u = view c.take.new.pass in
     let e = c.add_in_new-number.ensures in
     let at = c.requires.adds.changed in
-    let root : root_in (held_words a.o u) ≡ suc (table_id t) = (grow d).keyed.root ∙ ap root_for is in
-    let before : root_in (held_words (changes a.called.now) u) ≡ suc (table_id t) = subst (λ (n : ℕ). root_in (held_words n u) ≡ suc (table_id t)) (sym at) root in
-    let after : root_in (held_words (changes a.called.now) (view c.add_in_new-number.new.pass)) ≡ suc (table_id c.in-Taken.table) = subst (λ (n : ℕ). root_in (held_words n (view c.add_in_new-number.new.pass)) ≡ suc (table_id c.in-Taken.table)) (sym at) e.root in
+    let root : root_in (held_unboxed a.o u) ≡ suc (table_id t) = (grow d).keyed.root ∙ ap root_for is in
+    let before : root_in (held_unboxed (changes a.called.now) u) ≡ suc (table_id t) = subst (λ (n : ℕ). root_in (held_unboxed n u) ≡ suc (table_id t)) (sym at) root in
+    let after : root_in (held_unboxed (changes a.called.now) (view c.add_in_new-number.new.pass)) ≡ suc (table_id c.in-Taken.table) = subst (λ (n : ℕ). root_in (held_unboxed n (view c.add_in_new-number.new.pass)) ≡ suc (table_id c.in-Taken.table)) (sym at) e.root in
     let out = taken_out a.called.now a.said.now c.add_in_new-number.result (table_id t) (suc (table_id c.in-Taken.table)) u (view c.add_in_new-number.new.pass) e.wrote before after (λ same_name. other d (root ∙ same_name)) in
     (c.requires.may.keyed.table_in t is, out.0, out.1)
 
@@ -132,10 +131,11 @@ returns-in-Taken-clause-added c =
         table = c.in-Taken.table;
         taken = u;
         tried = record { mid = e.did.0; freed = e.did.1; acts = e.did.2; collected = e.did.3; did = e.did.4; taking = e.did.5; has = e.did.6; floor = e.floor; same = e.same; keeps = e.keeps; hands = e.hands };
-        other = subst (λ (n : ℕ). root_in (held_words n u) ≢ suc (table_id c.in-Taken.table)) (sym at) (other d);
+        other = subst (λ (n : ℕ). root_in (held_unboxed n u) ≢ suc (table_id c.in-Taken.table)) (sym at) (other d);
         done = done;
         wrote = w.wrote;
-        root = subst (λ (n : ℕ). root_in (held_words n done) ≡ suc (table_id c.in-Taken.table)) (sym at) w.root;
-        retired = subst (λ (n : ℕ). Retires n done (view c.retire_old.new.pass)) (sym (grow d).keyed.root ∙ sym (ap (λ (n : ℕ). root_in (held_words n u)) at)) c.retire_old.ensures.retired;
+        root = subst (λ (n : ℕ). root_in (held_unboxed n done) ≡ suc (table_id c.in-Taken.table)) (sym at) w.root;
+        references = w.references;
+        retired = subst (λ (n : ℕ). Retires n done (view c.retire_old.new.pass)) (sym (grow d).keyed.root ∙ sym (ap (λ (n : ℕ). root_in (held_unboxed n u)) at)) c.retire_old.ensures.retired;
       },
     )

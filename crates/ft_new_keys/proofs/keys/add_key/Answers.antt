@@ -1,13 +1,15 @@
-use Rattle.std.proofs.Common.{◌≡◌, ◌<◌, ◌≤◌, ◌+◌, ◌^◌, ℕ, true, false, Option, Some, None, refl, sym, ap, ◌∙◌, subst, arith, lt-ltb}
+use Rattle.std.proofs.Common.{◌≡◌, ◌<◌, ◌+◌, ◌^◌, ℕ, true, false, Option, Some, None, refl, sym, ap, ◌∙◌, subst, arith, lt-ltb}
 use Rattle.std.specs.Prelude.{nat_lt}
 use Rattle.ft_model.specs.declared.content.Content.{Content}
 use Rattle.ft_model.specs.TableUses.{TableUse}
 use Rattle.ft_model.specs.Worlds.{kind_of, length_of, serial_of}
-use Rattle.ft_trace.specs.Holds.{held_words, known_state}
+use Rattle.ft_trace.specs.declared.Shape.{Shape}
+use Rattle.ft_trace.specs.Addresses.{container_count}
+use Rattle.ft_trace.specs.Holds.{held_unboxed, known_state}
 use Rattle.ft_trace.specs.Pictures.{ContainerWords}
 use Rattle.ft_trace.specs.ContainerStates.{ContainerState}
 use Rattle.ft_bank.specs.Passes.{shape_of, view}
-use Rattle.ft_bank.proofs.KnownAfterWrites.{loaded_held, work_knows}
+use Rattle.ft_bank.proofs.KnownAfterWrites.{work_knows}
 use Rattle.ft_table_calls.specs.declared.adding.Added.TheVariants as added
 use Rattle.ft_search.specs.Held.{IsHeldAt}
 use Rattle.ft_search.specs.Rounds.{kind_by}
@@ -17,20 +19,22 @@ use Rattle.ft_new_keys.specs.Placing.{AreCounts}
 use Rattle.ft_new_keys.proofs.Keyed.{counts_known, use_known}
 use Rattle.ft_new_keys.proofs.Present.{adds_one}
 use Rattle.ft_new_keys.proofs.Taken.{adds_later, has_loaded, may_loaded}
-use Rattle.ft_new_keys.proofs.Wanted.{most_few, passes_not}
+use Rattle.ft_new_keys.proofs.Wanted.{passes_not}
 use Rattle.ft_new_keys.proofs.keys.add_key.Goals as goal
 use Rattle.ft_new_keys.proofs.keys.add_key.Goals.{After-read_counts-counts}
 
-words_same : (c : After-read_counts-counts) → held_words c.args.o (view c.read_counts-counts.new.pass) ≡ held_words c.args.o (view c.args.pass.now)
-words_same c = loaded_held (view c.args.pass.now) (view c.read_counts-counts.new.pass) c.args.o c.read_counts-counts.ensures.only
+words_same : (c : After-read_counts-counts) → held_unboxed c.args.o (view c.read_counts-counts.new.pass) ≡ held_unboxed c.args.o (view c.args.pass.now)
+words_same c =
+    let keyed = c.requires.may.keyed in
+    c.read_counts-counts.ensures.only.unboxed c.args.o (subst (λ (z : Shape). c.args.o < container_count z) (sym c.requires.pass.1) keyed.container) keyed.locked
 
 same : (c : After-read_counts-counts) → known_state c.args.o (view c.read_counts-counts.new.pass) ≡ known_state c.args.o (view c.args.pass.now)
 same c = work_knows (view c.args.pass.now) (view c.read_counts-counts.new.pass) c.args.o c.read_counts-counts.ensures.only.work
 
 may : (c : After-read_counts-counts) → MayAddKey (shape_of c.args.bank.now) c.args.o c.args.old (view c.read_counts-counts.new.pass)
-may c = may_loaded (shape_of c.args.bank.now) c.args.o c.args.old (view c.args.pass.now) (view c.read_counts-counts.new.pass) c.read_counts-counts.ensures.only (words_same c) c.requires.may
+may c = may_loaded (shape_of c.args.bank.now) c.args.o c.args.old (view c.args.pass.now) (view c.read_counts-counts.new.pass) c.read_counts-counts.ensures.only (words_same c) c.requires.pass.1 c.requires.may
 
-counts : (c : After-read_counts-counts) → AreCounts (held_words c.args.o (view c.read_counts-counts.new.pass)).block c.read_counts-counts.result
+counts : (c : After-read_counts-counts) → AreCounts (held_unboxed c.args.o (view c.read_counts-counts.new.pass)).block c.read_counts-counts.result
 counts c = subst (λ (z : ContainerWords). AreCounts z.block c.read_counts-counts.result) (sym (words_same c)) c.read_counts-counts.ensures.counts
 
 kinds : (c : After-read_counts-counts) → kind_of (known_state c.args.o (view c.read_counts-counts.new.pass)).content ≡ kind_by c.args.way

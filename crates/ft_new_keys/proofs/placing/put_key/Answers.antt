@@ -1,15 +1,15 @@
 use Rattle.std.proofs.Common.{arith}
-use Rattle.ft_trace.specs.Holds.{held_words}
+use Rattle.ft_trace.specs.Holds.{held_unboxed}
 use Rattle.ft_bank.specs.Passes.{shape_of, view}
-use Rattle.ft_bank.proofs.KnownAfterWrites.{put_then}
+use Rattle.ft_bank.proofs.KnownAfterWrites.{put_written, written_then}
 use Rattle.ft_new_keys.proofs.NewEntryPuts.{few_used}
 use Rattle.ft_new_keys.proofs.placing.put_key.Goals as goal
 
 pub overflow_add-fill : goal.overflow_add-fill
 overflow_add-fill c =
     let a = c.args in
-    let f = few_used (shape_of a.bank.now) a.o a.table (view a.pass.now) a.slot a.counts.fill (held_words a.o (view a.pass.now)).table c.requires.writes c.requires.unused in
+    let f = few_used (shape_of a.bank.now) a.o a.table (view a.pass.now) a.slot a.counts.fill (held_unboxed a.o (view a.pass.now)).table c.requires.writes c.requires.unused in
     omega (arith, f)
 
 pub returns-clause-only : goal.returns-clause-only
-returns-clause-only c = put_then _ _ _ c.args.o c.put_counts.ensures.only c.put_pair.ensures.only
+returns-clause-only c = written_then c.args.o _ _ _ (put_written c.args.o _ _ c.put_counts.ensures.only) c.put_pair.ensures.only

@@ -1,20 +1,16 @@
-use Rattle.std.proofs.Common.{rules, ◌≡◌, ℕ, ◌+◌, ◌<◌, ◌≤◌, sym, ap, ◌∙◌, subst, arith}
-use Rattle.ft_layout.specs.Tables.{dict_room}
-use Rattle.ft_layout.specs.Words.{entry_words}
-use Rattle.ft_keys.specs.TableChanges.{place_puts}
-use Rattle.ft_trace.specs.Addresses.{class_of, slots, places}
-use Rattle.ft_trace.specs.Holds.{held_words}
-use Rattle.ft_trace.specs.Pictures.{ContainerWords, root_in}
-use Rattle.ft_trace.specs.ContainerStates.{kind_in}
-use Rattle.ft_trace.proofs.ByKind.{keyed_fit}
+use Rattle.std.proofs.Common.{rules, ◌≡◌, ◌+◌, ◌*◌, ap, ◌∙◌, subst, arith}
+use Rattle.std.specs.Prelude.{slice_index}
+use Rattle.ft_trace.specs.Addresses.{class_of, slots}
+use Rattle.ft_trace.specs.Holds.{held_words, held_unboxed}
+use Rattle.ft_trace.specs.Pictures.{entry_offset}
 use Rattle.ft_bank.specs.Passes.{shape_of, view}
 use Rattle.ft_bank.specs.TableNames.{table_id}
-use Rattle.ft_bank.specs.Whole.{OnlyPut}
-use Rattle.ft_bank.proofs.KnownAfterWrites.{put_then}
-use Rattle.ft_search.proofs.WordPlaces.{slots_is, places_is}
-use Rattle.ft_search.proofs.Puts.{writes_on}
-use Rattle.ft_new_keys.specs.Internal.Laying.{laid, with_pair}
-use Rattle.ft_new_keys.proofs.NewEntryPuts.{pair_opens, pair_allowed}
+use Rattle.ft_bank.specs.Whole.{OnlyWritten}
+use Rattle.ft_bank.proofs.KnownAfterWrites.{put_written, written_then}
+use Rattle.ft_search.proofs.WordPlaces.{slots_is}
+use Rattle.ft_search.proofs.Boxing.{table_of}
+use Rattle.ft_search.proofs.Puts.{few_done, few_slots}
+use Rattle.ft_new_keys.proofs.NewEntryPuts.{few_used, pair_open, pair_opens, pair_stores, pair_allowed}
 use Rattle.ft_new_keys.proofs.placing.put_pair.Goals as goal
 use Rattle.ft_new_keys.proofs.placing.put_pair.Goals.{After-mask_of-mask}
 
@@ -26,27 +22,73 @@ raise_version-requires-clause-care c =
 size : (c : After-mask_of-mask) → slots (class_of (table_id c.args.table)) ≡ c.mask_of-mask.result + 1
 size c = slots_is (shape_of c.args.bank.now) c.args.table c.mask_of-mask.result c.requires.writes.table_in c.mask_of-mask.ensures
 
+word_is : (c : After-mask_of-mask) → 8 * c.args.place + c.mask_of-mask.result + 1 + 4 ≡ entry_offset (slots (class_of (table_id c.args.table))) c.args.place 4
+word_is c = let s = size c in omega (arith, s)
+
+pub overflow_mul-word : goal.overflow_mul-word
+overflow_mul-word c =
+    let s = size (goal.at.overflow_mul-word c).After-mask_of-mask in
+    let p = few_used (shape_of c.args.bank.now) c.args.o c.args.table (view c.args.pass.now) c.args.slot c.args.place (held_unboxed c.args.o (view c.args.pass.now)).table c.requires.writes c.requires.unused in
+    let m = few_slots (shape_of c.args.bank.now) c.args.table c.requires.writes.table_in in
+    omega (arith, s, p, m)
+
+pub overflow_add-word : goal.overflow_add-word
+overflow_add-word c =
+    let s = size (goal.at.overflow_add-word c).After-mask_of-mask in
+    let p = few_used (shape_of c.args.bank.now) c.args.o c.args.table (view c.args.pass.now) c.args.slot c.args.place (held_unboxed c.args.o (view c.args.pass.now)).table c.requires.writes c.requires.unused in
+    let m = few_slots (shape_of c.args.bank.now) c.args.table c.requires.writes.table_in in
+    omega (arith, s, p, m)
+
+pub overflow_add-word-2 : goal.overflow_add-word-2
+overflow_add-word-2 c =
+    let s = size (goal.at.overflow_add-word-2 c).After-mask_of-mask in
+    let p = few_used (shape_of c.args.bank.now) c.args.o c.args.table (view c.args.pass.now) c.args.slot c.args.place (held_unboxed c.args.o (view c.args.pass.now)).table c.requires.writes c.requires.unused in
+    let m = few_slots (shape_of c.args.bank.now) c.args.table c.requires.writes.table_in in
+    omega (arith, s, p, m)
+
+pub overflow_add-word-3 : goal.overflow_add-word-3
+overflow_add-word-3 c =
+    let s = size (goal.at.overflow_add-word-3 c).After-mask_of-mask in
+    let p = few_used (shape_of c.args.bank.now) c.args.o c.args.table (view c.args.pass.now) c.args.slot c.args.place (held_unboxed c.args.o (view c.args.pass.now)).table c.requires.writes c.requires.unused in
+    let m = few_slots (shape_of c.args.bank.now) c.args.table c.requires.writes.table_in in
+    omega (arith, s, p, m)
+
+pub put_unboxed-requires-clause-writes : goal.put_unboxed-requires-clause-writes
+put_unboxed-requires-clause-writes c = table_of (shape_of c.args.bank.now) c.args.o c.args.table (view c.raise_version.new.pass) c.raise_version.ensures.writes
+
+pub put_unboxed-requires-clause-open : goal.put_unboxed-requires-clause-open
+put_unboxed-requires-clause-open c =
+    let a = c.args in
+    let r = c.raise_version.ensures in
+    pair_open (shape_of a.bank.now) a.o a.table (view c.raise_version.new.pass) a.slot a.place _ (held_unboxed a.o (view a.pass.now)) r.pass.1 r.writes.keyed r.words c.requires.unused (word_is (goal.at.put_unboxed-requires-clause-open c).After-mask_of-mask)
+
+pub put_unboxed-requires-clause-plain : goal.put_unboxed-requires-clause-plain
+put_unboxed-requires-clause-plain c =
+    let a = c.args in
+    let r = c.raise_version.ensures in
+    pair_stores (shape_of a.bank.now) a.o a.table (view c.raise_version.new.pass) a.slot a.place _ (held_unboxed a.o (view a.pass.now)) r.pass.1 r.writes.keyed r.words c.requires.unused (word_is (goal.at.put_unboxed-requires-clause-plain c).After-mask_of-mask)
+
 pub place_in-requires-clause-slot : goal.place_in-requires-clause-slot
 place_in-requires-clause-slot c = let s = size (goal.at.place_in-requires-clause-slot c).After-mask_of-mask in let i = c.requires.unused.in_index in omega (arith, s, i)
 
-pub place_in-requires-clause-place : goal.place_in-requires-clause-place
-place_in-requires-clause-place c =
+pub place_in-requires-clause-in_place : goal.place_in-requires-clause-in_place
+place_in-requires-clause-in_place c four =
     let a = c.args in
-    let k = shape_of a.bank.now in
-    let f = keyed_fit (kind_in k.starts a.o) c.requires.writes.keyed (class_of (table_id a.table)) in
-    let e = places_is k a.table c.mask_of-mask.result c.requires.writes.table_in c.mask_of-mask.ensures in
-    let low = c.requires.unused.low in
-    omega (arith, f, e, low)
+    c.put_unboxed.ensures.raw (ap (slice_index (held_words a.o (view c.put_unboxed.new.pass)).table) (word_is (goal.at.place_in-requires-clause-in_place c).After-mask_of-mask) ∙ four)
 
 pub place_in-requires-clause-may : goal.place_in-requires-clause-may
 place_in-requires-clause-may c =
     let a = c.args in
+    let k = shape_of a.bank.now in
     let r = c.raise_version.ensures in
-    pair_allowed _ (shape_of a.bank.now) (held_words a.o (view a.pass.now)) a.slot a.place a.pair.now r.pass.1 r.writes.keyed (size (goal.at.place_in-requires-clause-may c).After-mask_of-mask)
-    (r.writes.locked, r.writes.root) (r.only.work.committed a.o ∙ c.requires.early) r.words c.requires.unused
+    let p = c.put_unboxed.ensures in
+    let d = (goal.at.place_in-requires-clause-may c).After-mask_of-mask in
+    pair_allowed _ k (held_unboxed a.o (view a.pass.now)) a.slot a.place a.pair.now p.pass.1 p.writes.container p.writes.table_in r.writes.keyed (size d)
+    (p.writes.locked, p.writes.root) (p.only.work.committed a.o ∙ (r.only.work.committed a.o ∙ c.requires.early)) (few_done k (view c.put_unboxed.new.pass) p.pass.1 p.writes.boxes)
+    (λ four. p.raw (ap (slice_index (held_words a.o (view c.put_unboxed.new.pass)).table) (word_is d) ∙ four)) c.requires.value.1 (p.words ∙ r.words) c.requires.unused
 
 pub returns-clause-only : goal.returns-clause-only
 returns-clause-only c =
-    let a = c.args in
+    let o = c.args.o in
     let same : c.place_in.new.words.pass.now ≡ c.pass-1.given.0 = search rules in
-    put_then _ _ _ a.o c.raise_version.ensures.only (subst (λ p. OnlyPut a.o (view c.raise_version.new.pass) (view p)) same c.place_in.ensures.only)
+    written_then o _ _ _ (put_written o _ _ c.raise_version.ensures.only) (written_then o _ _ _ c.put_unboxed.ensures.only (subst (λ p. OnlyWritten o (view c.put_unboxed.new.pass) (view p)) same (put_written o _ _ c.place_in.ensures.only)))

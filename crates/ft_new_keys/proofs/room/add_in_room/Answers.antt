@@ -1,23 +1,23 @@
-use Rattle.std.proofs.Common.{◌≡◌, ℕ, ◌+◌, ◌^◌, ◌<◌, [], Some, refl, sym, ap, ◌∙◌, subst, arith}
+use Rattle.std.proofs.Common.{◌≡◌, ℕ, ◌+◌, ◌^◌, ◌<◌, [], Some, sym, ◌∙◌, subst, arith}
 use Rattle.ft_model.specs.declared.script.Kind.{Kind}
-use Rattle.ft_layout.specs.declared.slot.Pair.{Pair}
-use Rattle.ft_layout.specs.Tables.{hash_of}
 use Rattle.ft_trace.specs.declared.View.{View}
 use Rattle.ft_trace.specs.Addresses.{class_of, slots}
-use Rattle.ft_trace.specs.Holds.{held_words, known_state}
+use Rattle.ft_trace.specs.Holds.{held_unboxed, known_state}
 use Rattle.ft_trace.specs.Kinds.{rows}
 use Rattle.ft_trace.specs.Pictures.{ContainerWords}
 use Rattle.ft_trace.specs.ContainerStates.{kind_in}
 use Rattle.ft_bank.specs.Passes.{shape_of, view}
 use Rattle.ft_bank.specs.TableNames.{table_id}
 use Rattle.ft_search.proofs.Changing.{Changing, kind_is}
+use Rattle.ft_search.specs.Rounds.{kind_by}
+use Rattle.ft_search.proofs.Puts.{same_done}
 use Rattle.ft_search.proofs.ReadyCommits.{whole_write}
 use Rattle.ft_new_keys.specs.KeyGrowth.{KnowsKeyed}
 use Rattle.ft_new_keys.specs.Placing.{with_key}
 use Rattle.ft_new_keys.specs.Internal.Laying.{IsUnused, with_entry}
 use Rattle.ft_new_keys.proofs.FinishedKeys.{key_finishes, since_start}
 use Rattle.ft_new_keys.proofs.Keyed.{counts_known, fresh_known, knows_here, shut_here}
-use Rattle.ft_new_keys.proofs.Placed.{Fresh, PlaceLaws, pair_for, place_unused, places_key, use_with}
+use Rattle.ft_new_keys.proofs.Placed.{Fresh, PlaceLaws, pair_for, place_unused, places_key, refs_then, stores_plain, use_with}
 use Rattle.ft_new_keys.proofs.room.add_in_room.Goals as goal
 use Rattle.ft_new_keys.proofs.room.add_in_room.Goals.{After-start_write}
 
@@ -37,7 +37,7 @@ laws c =
 knows : (c : After-start_write) → KnowsKeyed (shape_of c.args.bank.now) c.args.o (Some c.args.table) (view c.args.pass.now)
 knows c = knows_here (shape_of c.args.bank.now) c.args.o c.args.table (view c.args.pass.now) c.requires.may c.requires.table
 
-fresh : (c : After-start_write) → Fresh (shape_of c.args.bank.now).texts (held_words c.args.o (view c.args.pass.now)) (table_id c.args.table) c.args.slot c.args.counts (known_state c.args.o (view c.args.pass.now)).content c.args.key c.args.stored
+fresh : (c : After-start_write) → Fresh (shape_of c.args.bank.now).texts (held_unboxed c.args.o (view c.args.pass.now)) (table_id c.args.table) c.args.slot c.args.counts (known_state c.args.o (view c.args.pass.now)).content c.args.key c.args.stored
 fresh c =
     let a = c.args in
     let low = subst (λ (z : ℕ). z < 2 ^ 64) c.hash_of-hash.ensures c.hash_of-hash.type_inv in
@@ -56,9 +56,9 @@ put_key-requires-clause-unused c =
     let v = view a.pass.now in
     let d = (goal.at.put_key-requires-clause-unused c).After-start_write in
     let n = slots (class_of (table_id a.table)) in
-    subst (λ (z : View). IsUnused n (rows (kind_in k.starts a.o) (class_of (table_id a.table))) (held_words a.o z).table a.slot a.counts.fill) (sym c.start_write.ensures.1)
-    (subst (λ (z : Kind). IsUnused n (rows z (class_of (table_id a.table))) (held_words a.o v).table a.slot a.counts.fill) (kind_is k v a.o c.requires.pass.1 a.pass.now.possible c.requires.may.locked)
-    (place_unused (laws d) k.texts (held_words a.o v) (table_id a.table) a.slot a.counts (known_state a.o v).content a.key a.stored (fresh d)))
+    subst (λ (z : View). IsUnused n (rows (kind_in k.starts a.o) (class_of (table_id a.table))) (held_unboxed a.o z).table a.slot a.counts.fill) (sym c.start_write.ensures.1)
+    (subst (λ (z : Kind). IsUnused n (rows z (class_of (table_id a.table))) (held_unboxed a.o v).table a.slot a.counts.fill) (kind_is k v a.o c.requires.pass.1 a.pass.now.possible c.requires.may.locked)
+    (place_unused (laws d) k.texts (held_unboxed a.o v) (table_id a.table) a.slot a.counts (known_state a.o v).content a.key a.stored (fresh d)))
 
 pub finish_entry-requires-clause-may : goal.finish_entry-requires-clause-may
 finish_entry-requires-clause-may c =
@@ -70,14 +70,25 @@ finish_entry-requires-clause-may c =
     let e = c.put_key.ensures in
     let d = (goal.at.finish_entry-requires-clause-may c).After-start_write in
     let begun = c.start_write.ensures.1 in
-    let words : with_entry t a.slot a.counts (pair_for k.texts (known_state a.o v).content a.key a.stored) (held_words a.o v) ≡ held_words a.o u = (λ i. with_entry t a.slot a.counts (pair d i) (held_words a.o (sym begun i))) ∙ sym e.words in
+    let words : with_entry t a.slot a.counts (pair_for k.texts (known_state a.o v).content a.key a.stored) (held_unboxed a.o v) ≡ held_unboxed a.o u = (λ i. with_entry t a.slot a.counts (pair d i) (held_unboxed a.o (sym begun i))) ∙ sym e.words in
     let none = c.requires.may.owes in
     key_finishes a.o v u (since_start a.o v (view c.start_write.new.pass) u c.start_write.result begun e.only) k a.table a.counts.fill a.called.now a.said.now _ c.requires.leaves c.requires.pass.1 c.requires.may.container c.requires.may.left
     (λ found class has owed. absurd (omega (arith, none, owed)))
     (kind_is k v a.o c.requires.pass.1 a.pass.now.possible c.requires.may.locked) (known_state a.o v).table
     (subst (λ (x : ContainerWords). Changing k.texts t x (known_state a.o v) a.counts.fill [] (record { content = with_key (known_state a.o v).content a.key a.stored; table = use_with (class_of t) (a.counts.fill + 1) })) words
-    (places_key (laws d) k.texts (held_words a.o v) t a.slot a.counts (known_state a.o v).content a.key a.stored (fresh d) (shut_here c.words_are_of_one_content.ensures.head k a.o a.table v c.requires.pass.1 a.pass.now.possible (knows d) a.way c.requires.way) (known_state a.o v).table))
+    (places_key (laws d) k.texts (held_unboxed a.o v) t a.slot a.counts (known_state a.o v).content a.key a.stored (fresh d) (shut_here c.words_are_of_one_content.ensures.head k a.o a.table v c.requires.pass.1 a.pass.now.possible (knows d) a.way c.requires.way) (known_state a.o v).table))
     e.writes.root
+
+pub put_key-requires-clause-value : goal.put_key-requires-clause-value
+put_key-requires-clause-value c = (c.requires.value, stores_plain (kind_by c.args.way) c.args.stored c.requires.stores)
+
+pub returns-clause-references : goal.returns-clause-references
+returns-clause-references c =
+    let k = shape_of c.args.bank.now in
+    let v = view c.args.pass.now in
+    let u = view c.put_key.new.pass in
+    let e = c.put_key.ensures in
+    refs_then v u (view c.finish_entry.new.pass) (same_done k v u c.requires.pass.1 e.pass.1 c.requires.may.boxes e.writes.boxes) c.finish_entry.ensures.references
 
 pub returns-clause-wrote : goal.returns-clause-wrote
 returns-clause-wrote c =

@@ -22,11 +22,12 @@ use Rattle.ft_bank.specs.Passes.{shape_of, view}
 use Rattle.ft_bank.specs.TableNames.{table_id}
 use Rattle.ft_bank.specs.Whole.{OnlyLoaded}
 use Rattle.ft_bank.proofs.TableAddresses.{class_is}
-use Rattle.ft_bank.proofs.KnownAfterWrites.{loaded_held, work_knows}
+use Rattle.ft_bank.proofs.KnownAfterWrites.{work_knows}
 use Rattle.ft_table_calls.proofs.Rooting.{filled_then, loaded_filled}
 use Rattle.ft_search.proofs.Puts.{few_places, table_class}
 use Rattle.ft_new_keys.proofs.FilledTables.{room_of_way}
 use Rattle.ft_new_keys.proofs.Grown.{same_filled}
+use Rattle.ft_merging.proofs.Ending.{read_same}
 use Rattle.ft_merging.proofs.JoinedReads.{knows_loaded, none_found}
 use Rattle.ft_parting.specs.Internal.Choosing.{IsChosen, apart_pair, chosen, serial_at}
 use Rattle.ft_parting.proofs.Choices.{chosen_count, chosen_more, chosen_room, chosen_stays, some_apart}
@@ -53,7 +54,7 @@ returns-in_default-clause-chosen c used mine low is =
     let only = c.apart_at.ensures.only in
     let d = (goal.at.returns-in_default-clause-chosen c).After-apart_at in
     chosen_stays (shape_of a.bank.now) a.s a.from a.t a.table a.first a.start used mine a.place a.count v is low any z
-    (loaded_held v z a.s only) (work_knows v z a.s only.work) (work_knows v z a.t only.work) (hand_loaded (table_id a.table) v z only) (sym (stated d used mine low is) ∙ none_found c.apart_at.result c.in_default.not-Some)
+    (read_same (shape_of a.bank.now) a.s v z c.requires.pass.1 c.requires.keyed.container c.requires.keyed.locked only) (work_knows v z a.s only.work) (work_knows v z a.t only.work) (hand_loaded (table_id a.table) v z only) (sym (stated d used mine low is) ∙ none_found c.apart_at.result c.in_default.not-Some)
 
 pub returns-in_default-clause-only : goal.returns-in_default-clause-only
 returns-in_default-clause-only c = loaded_filled (view c.args.pass.now) (view c.apart_at.new.pass) c.apart_at.ensures.only
@@ -105,7 +106,7 @@ overflow_add-result c =
 pub put_last-requires-clause-keyed : goal.put_last-requires-clause-keyed
 put_last-requires-clause-keyed c =
     let a = c.args in
-    knows_loaded (shape_of a.bank.now) a.s (Some a.from) (view a.pass.now) (view c.apart_at.new.pass) c.apart_at.ensures.only c.requires.keyed
+    knows_loaded (shape_of a.bank.now) a.s (Some a.from) (view a.pass.now) (view c.apart_at.new.pass) c.requires.pass.1 c.apart_at.ensures.only c.requires.keyed
 
 pub put_last-requires-clause-fresh : goal.put_last-requires-clause-fresh
 put_last-requires-clause-fresh c = c.apart_at.ensures.only.work.hands (table_id c.args.table) ∙ c.requires.fresh
@@ -140,13 +141,13 @@ returns-clause-chosen c used mine low is =
     let same = some_apart k.texts (set_of (known_state a.t v).content).elements (slice_index_or used a.place any) c.in-Some.pair pair in
     let n = chosen_count k a.s a.from a.t a.table a.first a.start used mine a.place a.count v is low any c.in-Some.pair pair in
     let more : a.count - a.start ≡ length (chosen (set_of (known_state a.t v).content).elements a.first (take a.place used)) = omega (arith, n) in
-    let mine_same = same_filled k a.s (Some a.from) u z c.apart_at.ensures.pass.1 e.only (knows_loaded k a.s (Some a.from) v u loads c.requires.keyed) in
-    let other_same = same_filled k a.t a.other u z c.apart_at.ensures.pass.1 e.only (knows_loaded k a.t a.other v u loads c.requires.other_keyed) in
+    let mine_same = same_filled k a.s (Some a.from) u z c.apart_at.ensures.pass.1 e.only (knows_loaded k a.s (Some a.from) v u c.requires.pass.1 loads c.requires.keyed) in
+    let other_same = same_filled k a.t a.other u z c.apart_at.ensures.pass.1 e.only (knows_loaded k a.t a.other v u c.requires.pass.1 loads c.requires.other_keyed) in
     let hand = hand_loaded (table_id a.table) v u loads in
     let mask : class_mask a.table.class ≡ class_mask class = ap class_mask (sym (class_is a.table c.requires.table.2)) in
     let put : Pair = record { hash = c.in-Some.pair.hash; key = c.in-Some.pair.key; value = Empty; serial = c.serial_for-serial.result } in
     chosen_more k a.s a.from a.t a.table a.first a.start used mine a.place a.count v is low any c.in-Some.pair pair z put same.1 same.2 refl
     (c.serial_for-serial.ensures ∙ (λ i. serial_at a.first (more i) (same.3 i)))
-    (mine_same.0 ∙ loaded_held v u a.s loads) (mine_same.1 ∙ work_knows v u a.s loads.work) (other_same.1 ∙ work_knows v u a.t loads.work)
+    (mine_same.0 ∙ read_same k a.s v u c.requires.pass.1 c.requires.keyed.container c.requires.keyed.locked loads) (mine_same.1 ∙ work_knows v u a.s loads.work) (other_same.1 ∙ work_knows v u a.t loads.work)
     (subst (λ (y : ℕ × List ℕ). AddsPair way.Set y.0 a.count put (0 ∷ 0 ∷ y.1) (0 ∷ 0 ∷ in_hand (table_id a.table) z)) (λ i. (mask i, hand i)) e.adds)
     (λ p. e.versions p ∙ ap (λ (ws : List ℕ). entry_field (slots class) ws p 0) hand)

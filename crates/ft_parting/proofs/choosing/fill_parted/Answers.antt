@@ -9,7 +9,7 @@ use Rattle.ft_model.specs.Worlds.{serial_of, set_of}
 use Rattle.ft_model.proofs.Sets.{IsSet-xor}
 use Rattle.ft_layout.specs.Tables.{UsedEntry}
 use Rattle.ft_trace.specs.Addresses.{class_of}
-use Rattle.ft_trace.specs.Holds.{held_words, known_state}
+use Rattle.ft_trace.specs.Holds.{held_unboxed, known_state}
 use Rattle.ft_trace.specs.Kinds.{rows}
 use Rattle.ft_trace.specs.ContainerStates.{ContainerState}
 use Rattle.ft_bank.specs.Passes.{shape_of, view}
@@ -45,7 +45,7 @@ keep_apart-stay-requires-clause-fill c =
     let a = c.args in
     let v = view a.pass.now in
     sym c.requires.counts.1
-    ∙ ((c.words_are_of_one_content.ensures.head (shape_of a.bank.now).texts (held_words a.s v).block (0 ∷ 0 ∷ (held_words a.s v).table) (known_state a.s v).table (known_state a.s v).content c.requires.keyed.stands).fill_is
+    ∙ ((c.words_are_of_one_content.ensures.head (shape_of a.bank.now).texts (held_unboxed a.s v).block (0 ∷ 0 ∷ (held_unboxed a.s v).table) (known_state a.s v).table (known_state a.s v).content c.requires.keyed.stands).fill_is
     ∙ ap (λ (z : ContainerState). z.table.fill) (sym (one (goal.at.keep_apart-stay-requires-clause-fill c).After-blank).0))
 
 pub keep_apart-stay-requires-clause-fresh : goal.keep_apart-stay-requires-clause-fresh
@@ -180,5 +180,5 @@ returns-clause-filled c =
     let says = set_words k a.t w c.keep_apart-stay.ensures.pass.1 c.keep_apart-stay.new.pass.possible c.requires.other_set a.other (keyed_then d) in
     let fill : length (used d) ≡ a.others = says.filled ∙ (ap (λ (x : ContainerState). x.table.fill) (two d).1 ∙ sym c.requires.others) in
     let all_used = take_all a.others (used d) (omega (arith, fill)) in
-    has_fills k a.table z (all d) c.choose_all.result (rule d)
+    has_fills k a.table z (all d) c.choose_all.result c.requires.table (rule d)
     (subst (λ (l : List Element). HasChosen k a.table l c.choose_all.result z) ((λ i. mine d ++ chosen (set_of (own i).content).elements (Some a.counts.next) (all_used i)) ∙ whole d) done.has)

@@ -4,12 +4,12 @@ use Rattle.ft_layout.specs.Containers.{class_mask}
 use Rattle.ft_layout.specs.Tables.{IsSetTable, UsedEntry}
 use Rattle.ft_keys.specs.declared.walk.Way.TheVariants as way
 use Rattle.ft_keys.specs.Searches.{Finds}
-use Rattle.ft_trace.specs.Holds.{held_words}
+use Rattle.ft_trace.specs.Holds.{held_unboxed}
 use Rattle.ft_bank.specs.declared.table.Table.{Table}
 use Rattle.ft_bank.specs.Passes.{shape_of, view}
 use Rattle.ft_bank.specs.Whole.{OnlyLoaded}
 use Rattle.ft_bank.proofs.TableAddresses.{class_is}
-use Rattle.ft_search.proofs.Rounding.{looks_load}
+use Rattle.ft_search.proofs.Rounding.{looks_did}
 use Rattle.ft_new_keys.specs.KeyGrowth.{KnowsKeyed}
 use Rattle.ft_parting.proofs.Chosen.{found_at, missing, set_says}
 use Rattle.ft_parting.proofs.choosing.has_key.Goals as goal
@@ -22,7 +22,7 @@ keyed : (c : After-read_by-found) → KnowsKeyed (shape_of c.args.bank.now) c.ar
 keyed c = subst (λ (z : Option Table). KnowsKeyed (shape_of c.args.bank.now) c.args.t z (view c.args.pass.now)) c.in-Some.is c.requires.keyed
 
 only : (c : After-read_by-found) → OnlyLoaded (view c.args.pass.now) (view c.read_by-found.new.pass)
-only c = let p = c.read_by-found.ensures.looks in subst (OnlyLoaded (view c.args.pass.now)) (sym p.2.1) (looks_load p.0 (view c.args.pass.now) p.1)
+only c = let p = c.read_by-found.ensures.looks in looks_did p.0 c.args.pass.now c.read_by-found.new.pass p.1 p.2
 
 finds : (c : After-read_by-found) → Finds (set_says (shape_of c.args.bank.now) c.args.t (view c.args.pass.now) c.requires.pass.1 c.args.pass.now.possible c.requires.set c.in-Some.table (keyed c)).0 c.args.key c.read_by-found.result.0
 finds c =
@@ -31,7 +31,7 @@ finds c =
     let r = c.read_by-found.ensures in
     let table = c.in-Some.table in
     let says = set_says k a.t (view a.pass.now) c.requires.pass.1 a.pass.now.possible c.requires.set table (keyed c) in
-    r.searched.1.finds way.Set k.texts says.0 (subst (λ (n : ℕ). IsSetTable k.texts (class_mask n) says.0 (0 ∷ 0 ∷ (held_words a.t (view a.pass.now)).table)) (class_is table ((keyed c).table_in table refl).2) says.1) r.low refl
+    r.searched.1.finds way.Set k.texts says.0 (subst (λ (n : ℕ). IsSetTable k.texts (class_mask n) says.0 (0 ∷ 0 ∷ (held_unboxed a.t (view a.pass.now)).table)) (class_is table ((keyed c).table_in table refl).2) says.1) r.low refl
 
 pub returns-in-At-clause-only : goal.returns-in-At-clause-only
 returns-in-At-clause-only c = only (goal.at.returns-in-At-clause-only c).After-read_by-found

@@ -29,6 +29,7 @@ place_in-requires-clause-can c =
     record {
       pass = c.requires.pass;
       container = keyed.container;
+      keyed = keyed.keyed;
       locked = keyed.locked;
       even = keyed.even;
       old_in = keyed.table_in a.old refl;

@@ -2,13 +2,14 @@ use Rattle.std.proofs.Common.{ℕ, None, Option, sym, ap, ◌∙◌, subst}
 use Rattle.ft_trace.specs.Holds.{known_state}
 use Rattle.ft_bank.specs.declared.table.Table.{Table}
 use Rattle.ft_bank.specs.Passes.{shape_of, view}
-use Rattle.ft_bank.proofs.KnownAfterWrites.{loaded_held, work_knows}
+use Rattle.ft_bank.proofs.KnownAfterWrites.{work_knows}
 use Rattle.ft_search.specs.OneEntryWrites.{MayWriteEntries}
 use Rattle.ft_search.proofs.Calling.{loaded_same}
 use Rattle.ft_search.proofs.Changing.{kind_is}
 use Rattle.ft_search.proofs.Spotting.{may_loaded}
 use Rattle.ft_new_keys.specs.KeyGrowth.{KnowsKeyed}
 use Rattle.ft_new_keys.proofs.Taken.{has_loaded}
+use Rattle.ft_merging.proofs.Ending.{read_same}
 use Rattle.ft_merging.specs.Joining.{joined}
 use Rattle.ft_merging.specs.Parting.{PartsSets}
 use Rattle.ft_merging.proofs.JoinedSame.{known_bare, known_itself, none_joined}
@@ -37,13 +38,13 @@ parts c =
     let v = view a.pass.now in
     let u = view c.own_table.new.pass in
     let l = c.own_table.ensures.only in
-    parts_later a.s a.t a.called.now v u (has_loaded (shape_of a.bank.now) a.s None v u l (loaded_held v u a.s l)) l.work.pass.locks (work_knows v u a.s l.work) (work_knows v u a.t l.work) c.requires.parts
+    parts_later a.s a.t a.called.now v u (has_loaded (shape_of a.bank.now) a.s None v u l (read_same (shape_of a.bank.now) a.s v u c.requires.pass.1 c.requires.may.container c.requires.may.locked l)) l.work.pass.locks (work_knows v u a.s l.work) (work_knows v u a.t l.work) c.requires.parts
 
 may : (c : After-own_table) → MayWriteEntries (shape_of c.args.bank.now) c.args.s (view c.own_table.new.pass)
-may c = may_loaded (shape_of c.args.bank.now) c.args.s (view c.args.pass.now) (view c.own_table.new.pass) c.own_table.ensures.only c.requires.may
+may c = may_loaded (shape_of c.args.bank.now) c.args.s (view c.args.pass.now) (view c.own_table.new.pass) c.requires.pass.1 c.own_table.ensures.only c.requires.may
 
 other : (c : After-own_table) → MayWriteEntries (shape_of c.args.bank.now) c.args.t (view c.own_table.new.pass)
-other c = may_loaded (shape_of c.args.bank.now) c.args.t (view c.args.pass.now) (view c.own_table.new.pass) c.own_table.ensures.only c.requires.other
+other c = may_loaded (shape_of c.args.bank.now) c.args.t (view c.args.pass.now) (view c.own_table.new.pass) c.requires.pass.1 c.own_table.ensures.only c.requires.other
 
 pub part_from-requires-clause-may : goal.part_from-requires-clause-may
 part_from-requires-clause-may c = may (goal.at.part_from-requires-clause-may c).After-own_table

@@ -2,16 +2,17 @@ use Rattle.std.proofs.Common.{◌≡◌, ◌+◌, ◌<◌, ◌^◌, ◌∷◌, l
 use Rattle.std.specs.Prelude.{slice_index}
 use Rattle.ft_model.specs.Contents.{those_not_in}
 use Rattle.ft_model.specs.Worlds.{serial_of, set_of}
-use Rattle.ft_trace.specs.Holds.{held_words, known_state}
+use Rattle.ft_trace.specs.Holds.{held_unboxed, known_state}
 use Rattle.ft_trace.specs.Pictures.{ContainerWords}
 use Rattle.ft_trace.specs.ContainerStates.{ContainerState}
 use Rattle.ft_bank.specs.Passes.{shape_of, view}
 use Rattle.ft_bank.specs.Whole.{OnlyLoaded}
-use Rattle.ft_bank.proofs.KnownAfterWrites.{loaded_held, loaded_then, work_knows}
+use Rattle.ft_bank.proofs.KnownAfterWrites.{loaded_then, work_knows}
 use Rattle.ft_search.proofs.Spotting.{may_loaded}
 use Rattle.ft_new_keys.specs.Placing.{AreCounts}
 use Rattle.ft_new_keys.proofs.Present.{may_add}
 use Rattle.ft_new_keys.proofs.Taken.{has_loaded}
+use Rattle.ft_merging.proofs.Ending.{read_same}
 use Rattle.ft_merging.specs.Joining.{new_keys}
 use Rattle.ft_merging.proofs.ThinningEnds.{is_set}
 use Rattle.ft_merging.proofs.JoinedReads.{knows_loaded}
@@ -39,7 +40,7 @@ others_fill : (c : After-own_table-old) → c.read_counts-others.result.fill ≡
 others_fill c =
     let a = c.args in
     let v = view a.pass.now in
-    sym c.read_counts-others.ensures.counts.1 ∙ (c.words_are_of_one_content.ensures.head (shape_of a.bank.now).texts (held_words a.t v).block (0 ∷ 0 ∷ (held_words a.t v).table) (known_state a.t v).table (known_state a.t v).content c.requires.other.stands).fill_is
+    sym c.read_counts-others.ensures.counts.1 ∙ (c.words_are_of_one_content.ensures.head (shape_of a.bank.now).texts (held_unboxed a.t v).block (0 ∷ 0 ∷ (held_unboxed a.t v).table) (known_state a.t v).table (known_state a.t v).content c.requires.other.stands).fill_is
 
 -- and the first one
 own_fill : (c : After-own_table-old) → c.read_counts-counts.result.fill ≡ (known_state c.args.s (view c.args.pass.now)).table.fill
@@ -48,18 +49,18 @@ own_fill c =
     let v = view a.pass.now in
     let u = view c.read_counts-others.new.pass in
     sym c.read_counts-counts.ensures.counts.1
-    ∙ (ap (λ (x : ContainerWords). slice_index x.block 2) (loaded_held v u a.s c.read_counts-others.ensures.only)
-    ∙ (c.words_are_of_one_content.ensures.head (shape_of a.bank.now).texts (held_words a.s v).block (0 ∷ 0 ∷ (held_words a.s v).table) (known_state a.s v).table (known_state a.s v).content c.requires.may.stands).fill_is)
+    ∙ (ap (λ (x : ContainerWords). slice_index x.block 2) (read_same (shape_of a.bank.now) a.s v u c.requires.pass.1 c.requires.may.container c.requires.may.locked c.read_counts-others.ensures.only)
+    ∙ (c.words_are_of_one_content.ensures.head (shape_of a.bank.now).texts (held_unboxed a.s v).block (0 ∷ 0 ∷ (held_unboxed a.s v).table) (known_state a.s v).table (known_state a.s v).content c.requires.may.stands).fill_is)
 
 pub count_lacking-more-requires-clause-may : goal.count_lacking-more-requires-clause-may
 count_lacking-more-requires-clause-may c =
     let a = c.args in
-    may_loaded (shape_of a.bank.now) a.s (view a.pass.now) (view c.own_table-old.new.pass) (one (goal.at.count_lacking-more-requires-clause-may c).After-own_table-old) c.requires.may
+    may_loaded (shape_of a.bank.now) a.s (view a.pass.now) (view c.own_table-old.new.pass) c.requires.pass.1 (one (goal.at.count_lacking-more-requires-clause-may c).After-own_table-old) c.requires.may
 
 pub count_lacking-more-requires-clause-other : goal.count_lacking-more-requires-clause-other
 count_lacking-more-requires-clause-other c =
     let a = c.args in
-    knows_loaded (shape_of a.bank.now) a.t (Some a.table) (view a.pass.now) (view c.own_table-old.new.pass) (one (goal.at.count_lacking-more-requires-clause-other c).After-own_table-old) c.requires.other
+    knows_loaded (shape_of a.bank.now) a.t (Some a.table) (view a.pass.now) (view c.own_table-old.new.pass) c.requires.pass.1 (one (goal.at.count_lacking-more-requires-clause-other c).After-own_table-old) c.requires.other
 
 pub count_lacking-more-requires-clause-fill : goal.count_lacking-more-requires-clause-fill
 count_lacking-more-requires-clause-fill c =
@@ -70,13 +71,13 @@ count_lacking-more-requires-clause-fill c =
 pub count_staying-stay-requires-clause-keyed : goal.count_staying-stay-requires-clause-keyed
 count_staying-stay-requires-clause-keyed c =
     let a = c.args in
-    knows_loaded (shape_of a.bank.now) a.s c.own_table-old.result (view c.own_table-old.new.pass) (view c.count_lacking-more.new.pass) c.count_lacking-more.ensures.only c.own_table-old.ensures.knows
+    knows_loaded (shape_of a.bank.now) a.s c.own_table-old.result (view c.own_table-old.new.pass) (view c.count_lacking-more.new.pass) c.own_table-old.ensures.pass.1 c.count_lacking-more.ensures.only c.own_table-old.ensures.knows
 
 pub count_staying-stay-requires-clause-other : goal.count_staying-stay-requires-clause-other
 count_staying-stay-requires-clause-other c =
     let a = c.args in
     let at = goal.at.count_staying-stay-requires-clause-other c in
-    may_loaded (shape_of a.bank.now) a.t (view a.pass.now) (view c.count_lacking-more.new.pass) (two at.After-count_lacking-more (one at.After-own_table-old)) c.requires.other_may
+    may_loaded (shape_of a.bank.now) a.t (view a.pass.now) (view c.count_lacking-more.new.pass) c.requires.pass.1 (two at.After-count_lacking-more (one at.After-own_table-old)) c.requires.other_may
 
 pub count_staying-stay-requires-clause-fill : goal.count_staying-stay-requires-clause-fill
 count_staying-stay-requires-clause-fill c =
@@ -96,7 +97,7 @@ part_more-requires-clause-may c =
     let w = view c.count_staying-stay.new.pass in
     let all = three at.After-count_staying-stay (two at.After-count_lacking-more (one at.After-own_table-old)) in
     let late = loaded_then (view c.own_table-old.new.pass) m w c.count_lacking-more.ensures.only c.count_staying-stay.ensures.only in
-    may_add k a.s c.own_table-old.result v w all c.requires.used c.requires.idle (may_loaded k a.s v w all c.requires.may) (knows_loaded k a.s c.own_table-old.result (view c.own_table-old.new.pass) w late c.own_table-old.ensures.knows)
+    may_add k a.s c.own_table-old.result v w all c.requires.used c.requires.idle (may_loaded k a.s v w c.requires.pass.1 all c.requires.may) (knows_loaded k a.s c.own_table-old.result (view c.own_table-old.new.pass) w c.own_table-old.ensures.pass.1 late c.own_table-old.ensures.knows)
 
 stays : (c : After-count_staying-stay) → OnlyLoaded (view c.args.pass.now) (view c.count_lacking-more.new.pass) → c.count_staying-stay.result ≡ length (those_not_in (set_of (known_state c.args.t (view c.args.pass.now)).content).elements (set_of (known_state c.args.s (view c.args.pass.now)).content).elements)
 stays c before =
@@ -135,11 +136,11 @@ part_more-requires-clause-merge c =
     let other = work_knows v w a.t all.work in
     record {
       two = c.requires.two;
-      other = knows_loaded k a.t (Some a.table) v w all c.requires.other;
+      other = knows_loaded k a.t (Some a.table) v w c.requires.pass.1 all c.requires.other;
       way = c.requires.set;
       other_way = c.requires.other_set;
       others = others_fill at.After-own_table-old ∙ ap (λ (z : ContainerState). z.table.fill) (sym other);
-      counts = subst (λ (z : ContainerWords). AreCounts z.block c.read_counts-counts.result) (loaded_held v (view c.read_counts-others.new.pass) a.s c.read_counts-others.ensures.only ∙ sym (loaded_held v w a.s all)) c.read_counts-counts.ensures.counts;
+      counts = subst (λ (z : ContainerWords). AreCounts z.block c.read_counts-counts.result) (read_same k a.s v (view c.read_counts-others.new.pass) c.requires.pass.1 c.requires.may.container c.requires.may.locked c.read_counts-others.ensures.only ∙ sym (read_same k a.s v w c.requires.pass.1 c.requires.may.container c.requires.may.locked all)) c.read_counts-counts.ensures.counts;
       more = news at.After-count_lacking-more before ∙ (λ i. new_keys (sym mine i).content (sym other i).content);
       serials = subst (λ (z : ContainerState). serial_of z.content + 65536 < 2 ^ 63) (sym mine) c.requires.serials;
     }
@@ -168,7 +169,7 @@ part_more-requires-clause-parts c =
     let v = view a.pass.now in
     let w = view c.count_staying-stay.new.pass in
     let all = three at.After-count_staying-stay (two at.After-count_lacking-more (one at.After-own_table-old)) in
-    parts_later a.s a.t a.called.now v w (has_loaded (shape_of a.bank.now) a.s c.own_table-old.result v w all (loaded_held v w a.s all)) all.work.pass.locks (work_knows v w a.s all.work) (work_knows v w a.t all.work) c.requires.parts
+    parts_later a.s a.t a.called.now v w (has_loaded (shape_of a.bank.now) a.s c.own_table-old.result v w all (read_same (shape_of a.bank.now) a.s v w c.requires.pass.1 c.requires.may.container c.requires.may.locked all)) all.work.pass.locks (work_knows v w a.s all.work) (work_knows v w a.t all.work) c.requires.parts
 
 pub returns-clause-added : goal.returns-clause-added
 returns-clause-added c =

@@ -24,7 +24,7 @@ pub returns-in-Some-clause-added : goal.returns-in-Some-clause-added
 returns-in-Some-clause-added c =
     let a = c.args in
     let n = c.part_here.ensures in
-    made_here (shape_of a.bank.now) a.merge.now.o a.called.now (view a.pass.now) (view c.part_here.new.pass) c.written.result c.part_here.result c.written.ensures c.requires.parts.changed n.wrote n.root
+    made_here (shape_of a.bank.now) a.merge.now.o a.called.now (view a.pass.now) (view c.part_here.new.pass) c.written.result c.part_here.result c.written.ensures c.requires.parts.changed n.wrote n.references n.root
 
 -- ---- without a table none is new
 
@@ -35,7 +35,7 @@ pub part_thin-requires-clause-other : goal.part_thin-requires-clause-other
 part_thin-requires-clause-other c =
     let o = c.requires.merge.other in
     let m = c.requires.may in
-    record { container = o.container; keyed = o.keyed; locked = o.locked; even = m.even; stands = o.stands; owes = m.owes; left = m.left }
+    record { container = o.container; keyed = o.keyed; locked = o.locked; even = m.even; stands = o.stands; owes = m.owes; boxes = m.boxes; left = m.left }
 
 pub part_thin-requires-clause-none : goal.part_thin-requires-clause-none
 part_thin-requires-clause-none c =

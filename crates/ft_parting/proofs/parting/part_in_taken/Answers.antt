@@ -6,7 +6,7 @@ use Rattle.ft_model.specs.TableUses.{StoredWorld}
 use Rattle.ft_model.specs.Worlds.{serial_of, set_of}
 use Rattle.ft_trace.specs.Acts.{has_lock}
 use Rattle.ft_trace.specs.Addresses.{class_of}
-use Rattle.ft_trace.specs.Holds.{held_words, in_hand, known_state}
+use Rattle.ft_trace.specs.Holds.{held_words, held_unboxed, in_hand, known_state}
 use Rattle.ft_trace.specs.Kinds.{rows}
 use Rattle.ft_trace.specs.Pictures.{ContainerWords, root_in}
 use Rattle.ft_trace.specs.ContainerStates.{ContainerState}
@@ -21,7 +21,7 @@ use Rattle.ft_section.specs.declared.answers.Stamp.{Stamp}
 use Rattle.ft_new_keys.specs.Fresh.{IsFilledWith}
 use Rattle.ft_new_keys.specs.KeyGrowth.{MayGrowKeyed}
 use Rattle.ft_new_keys.specs.Placing.{AreCounts}
-use Rattle.ft_new_keys.proofs.Grown.{filled_has, grow_filled, same_filled}
+use Rattle.ft_new_keys.proofs.Grown.{filled_has, grow_filled, same_filled, words_filled}
 use Rattle.ft_new_keys.proofs.Keyed.{counts_known, fresh_other}
 use Rattle.ft_new_keys.proofs.Taken.{tried_has, tried_knows, tried_may, tried_words}
 use Rattle.ft_merging.specs.Parting.{parted}
@@ -34,13 +34,13 @@ use Rattle.ft_parting.proofs.parting.part_in_taken.Goals.{After-take, In-Taken}
 
 -- ---- once it was taken
 
-words_s : (c : In-Taken) → (held_words c.args.merge.now.o (view c.take.new.pass) ≡ held_words c.args.merge.now.o (view c.args.pass.now)) × (known_state c.args.merge.now.o (view c.take.new.pass) ≡ known_state c.args.merge.now.o (view c.args.pass.now))
+words_s : (c : In-Taken) → (held_unboxed c.args.merge.now.o (view c.take.new.pass) ≡ held_unboxed c.args.merge.now.o (view c.args.pass.now)) × (known_state c.args.merge.now.o (view c.take.new.pass) ≡ known_state c.args.merge.now.o (view c.args.pass.now))
 words_s c =
     let a = c.args in
     let e = c.in-Taken.ensures in
     tried_words _ (view a.pass.now) (view c.take.new.pass) e.same e.keeps (shape_of a.bank.now) a.merge.now.o a.old c.requires.pass.1 c.requires.may.keyed
 
-words_t : (c : In-Taken) → (held_words c.args.merge.now.t (view c.take.new.pass) ≡ held_words c.args.merge.now.t (view c.args.pass.now)) × (known_state c.args.merge.now.t (view c.take.new.pass) ≡ known_state c.args.merge.now.t (view c.args.pass.now))
+words_t : (c : In-Taken) → (held_unboxed c.args.merge.now.t (view c.take.new.pass) ≡ held_unboxed c.args.merge.now.t (view c.args.pass.now)) × (known_state c.args.merge.now.t (view c.take.new.pass) ≡ known_state c.args.merge.now.t (view c.args.pass.now))
 words_t c =
     let a = c.args in
     let e = c.in-Taken.ensures in
@@ -53,7 +53,7 @@ grow c =
     let x = e.did.6 in
     tried_may _ (view a.pass.now) (view c.take.new.pass) e.same e.keeps (shape_of a.bank.now) a.merge.now.o a.old c.in-Taken.new a.class c.requires.pass.1 c.requires.may x.0 x.1 x.3 x.4
 
-other : (c : In-Taken) → root_in (held_words c.args.merge.now.o (view c.take.new.pass)) ≢ suc (table_id c.in-Taken.new)
+other : (c : In-Taken) → root_in (held_unboxed c.args.merge.now.o (view c.take.new.pass)) ≢ suc (table_id c.in-Taken.new)
 other c =
     let a = c.args in
     let g = grow c in
@@ -161,10 +161,10 @@ retire_old-requires-clause-out c t is =
     let same = same_filled (shape_of a.bank.now) a.merge.now.o a.old (view c.take.new.pass) x (c.in-Taken.ensures.same.shape ∙ c.requires.pass.1) c.fill_parted.ensures.only (grow p).keyed in
     let ends = c.swap_table-number.ensures in
     let at = sym c.requires.parts.changed in
-    let root : root_in (held_words a.merge.now.o (view c.take.new.pass)) ≡ suc (table_id t) = (grow p).keyed.root ∙ ap root_for is in
+    let root : root_in (held_unboxed a.merge.now.o (view c.take.new.pass)) ≡ suc (table_id t) = (grow p).keyed.root ∙ ap root_for is in
     let out = taken_out a.called.now reply.Done c.swap_table-number.result (table_id t) (suc (table_id c.in-Taken.new)) x w ends.wrote
-    (subst (λ (n : ℕ). root_in (held_words n x) ≡ suc (table_id t)) at (ap root_in same.0 ∙ root))
-    (subst (λ (n : ℕ). root_in (held_words n w) ≡ suc (table_id c.in-Taken.new)) at ends.root)
+    (subst (λ (n : ℕ). root_in (held_unboxed n x) ≡ suc (table_id t)) at (ap root_in same.0 ∙ root))
+    (subst (λ (n : ℕ). root_in (held_unboxed n w) ≡ suc (table_id c.in-Taken.new)) at ends.root)
     (λ same_name. other p (root ∙ same_name)) in
     (c.requires.may.keyed.table_in t is, out.0, out.1)
 
@@ -183,7 +183,6 @@ returns-in-Taken-clause-added c =
     let x = view c.fill_parted.new.pass in
     let done = view c.swap_table-number.new.pass in
     let e = c.in-Taken.ensures in
-    let same = same_filled (shape_of a.bank.now) a.merge.now.o a.old u x (e.same.shape ∙ c.requires.pass.1) c.fill_parted.ensures.only (grow p).keyed in
     let at = c.requires.parts.changed in
     let w = c.swap_table-number.ensures in (
       refl,
@@ -192,10 +191,11 @@ returns-in-Taken-clause-added c =
         table = c.in-Taken.new;
         taken = u;
         tried = record { mid = e.did.0; freed = e.did.1; acts = e.did.2; collected = e.did.3; did = e.did.4; taking = e.did.5; has = e.did.6; floor = e.floor; same = e.same; keeps = e.keeps; hands = e.hands };
-        other = subst (λ (n : ℕ). root_in (held_words n u) ≢ suc (table_id c.in-Taken.new)) (sym at) (other p);
+        other = subst (λ (n : ℕ). root_in (held_unboxed n u) ≢ suc (table_id c.in-Taken.new)) (sym at) (other p);
         done = done;
-        wrote = subst (λ (z : Stamp). Wrote a.called.now reply.Done z.number u done) (sym c.written.ensures) (filled_wrote a.called.now reply.Done c.swap_table-number.result u x done c.fill_parted.ensures.only (subst (λ (n : ℕ). root_in (held_words n x) ≡ root_in (held_words n u)) (sym at) (ap root_in same.0)) w.wrote);
-        root = subst (λ (n : ℕ). root_in (held_words n done) ≡ suc (table_id c.in-Taken.new)) (sym at) w.root;
-        retired = subst (λ (n : ℕ). Retires n done (view c.retire_old.new.pass)) (sym (grow p).keyed.root ∙ sym (ap (λ (n : ℕ). root_in (held_words n u)) at)) c.retire_old.ensures.retired;
+        wrote = subst (λ (z : Stamp). Wrote a.called.now reply.Done z.number u done) (sym c.written.ensures) (filled_wrote a.called.now reply.Done c.swap_table-number.result u x done c.fill_parted.ensures.only (subst (λ (n : ℕ). held_words n x ≡ held_words n u) (sym at) (words_filled (shape_of a.bank.now) a.merge.now.o a.old u x (e.same.shape ∙ c.requires.pass.1) c.fill_parted.ensures.only (grow p).keyed)) w.wrote);
+        root = subst (λ (n : ℕ). root_in (held_unboxed n done) ≡ suc (table_id c.in-Taken.new)) (sym at) w.root;
+        references = λ b. w.references b ∙ c.fill_parted.ensures.only.references b;
+        retired = subst (λ (n : ℕ). Retires n done (view c.retire_old.new.pass)) (sym (grow p).keyed.root ∙ sym (ap (λ (n : ℕ). root_in (held_unboxed n u)) at)) c.retire_old.ensures.retired;
       },
     )

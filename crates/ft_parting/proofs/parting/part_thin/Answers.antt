@@ -41,4 +41,4 @@ returns-clause-added c =
     let n = c.thin_by.ensures in
     let takes = thin_takes (known_state a.s v) (known_state a.t v) (set_of (known_state a.s v).content) (is_set k v a.s c.requires.pass.1 a.pass.now.possible c.requires.may.locked c.requires.set) c.requires.none in
     subst (λ (z : Option ℕ × Bool). IsAdded k z.0 z.1 a.called.now reply.Done v w (added.Made c.written.result)) (λ i. (sym takes i, sym (few d) i))
-    (made_here k a.s a.called.now v w c.written.result c.thin_by.result c.written.ensures c.requires.parts.changed n.wrote n.root)
+    (made_here k a.s a.called.now v w c.written.result c.thin_by.result c.written.ensures c.requires.parts.changed n.wrote n.references n.root)

@@ -11,7 +11,7 @@ use Rattle.ft_model.proofs.Copies.{length-pairs_from}
 use Rattle.ft_layout.specs.Containers.{StandsAs}
 use Rattle.ft_trace.specs.Acts.{has_lock}
 use Rattle.ft_trace.specs.Addresses.{class_of}
-use Rattle.ft_trace.specs.Holds.{held_words, known_state}
+use Rattle.ft_trace.specs.Holds.{held_words, held_unboxed, known_state}
 use Rattle.ft_trace.specs.Kinds.{rows}
 use Rattle.ft_trace.specs.Pictures.{ContainerWords, root_in}
 use Rattle.ft_trace.specs.ContainerStates.{ContainerState}
@@ -24,7 +24,7 @@ use Rattle.ft_table_calls.proofs.Rooting.{filled_wrote, taken_out}
 use Rattle.ft_search.proofs.Changing.{kind_is}
 use Rattle.ft_new_keys.specs.KeyGrowth.{MayGrowKeyed}
 use Rattle.ft_new_keys.specs.Placing.{AreCounts}
-use Rattle.ft_new_keys.proofs.Grown.{filled_has, grow_filled, same_filled}
+use Rattle.ft_new_keys.proofs.Grown.{filled_has, grow_filled, same_filled, words_filled}
 use Rattle.ft_new_keys.proofs.Keyed.{counts_known, fresh_other}
 use Rattle.ft_new_keys.proofs.Taken.{tried_has, tried_knows, tried_may, tried_words}
 use Rattle.ft_replacing.specs.Replacing.{Replaces, copied}
@@ -55,12 +55,12 @@ few_is c =
     let v = view a.pass.now in
     let p = pairs_of c in
     subst (λ (z : Content). length_of z ≤ most_pairs) (sym p.1)
-    (pairs_few (shape_of a.bank.now).texts (held_words a.d v).block (0 ∷ 0 ∷ (held_words a.d v).table) (known_state a.d v).table p.0
-    (subst (λ (z : Content). StandsAs (shape_of a.bank.now).texts (held_words a.d v).block (0 ∷ 0 ∷ (held_words a.d v).table) (known_state a.d v).table z) p.1 c.requires.keyed.stands))
+    (pairs_few (shape_of a.bank.now).texts (held_unboxed a.d v).block (0 ∷ 0 ∷ (held_unboxed a.d v).table) (known_state a.d v).table p.0
+    (subst (λ (z : Content). StandsAs (shape_of a.bank.now).texts (held_unboxed a.d v).block (0 ∷ 0 ∷ (held_unboxed a.d v).table) (known_state a.d v).table z) p.1 c.requires.keyed.stands))
 
 -- ---- once it was taken
 
-words_d : (c : In-Taken) → (held_words c.args.d (view c.take.new.pass) ≡ held_words c.args.d (view c.args.pass.now)) × (known_state c.args.d (view c.take.new.pass) ≡ known_state c.args.d (view c.args.pass.now))
+words_d : (c : In-Taken) → (held_unboxed c.args.d (view c.take.new.pass) ≡ held_unboxed c.args.d (view c.args.pass.now)) × (known_state c.args.d (view c.take.new.pass) ≡ known_state c.args.d (view c.args.pass.now))
 words_d c =
     let a = c.args in
     let e = c.in-Taken.ensures in
@@ -73,7 +73,7 @@ grow c =
     let x = e.did.6 in
     tried_may _ (view a.pass.now) (view c.take.new.pass) e.same e.keeps (shape_of a.bank.now) a.e a.old c.in-Taken.table a.class c.requires.pass.1 c.requires.may x.0 x.1 x.3 x.4
 
-other : (c : In-Taken) → root_in (held_words c.args.e (view c.take.new.pass)) ≢ suc (table_id c.in-Taken.table)
+other : (c : In-Taken) → root_in (held_unboxed c.args.e (view c.take.new.pass)) ≢ suc (table_id c.in-Taken.table)
 other c =
     let a = c.args in
     let g = grow c in
@@ -156,10 +156,10 @@ retire_old-requires-clause-out c t is =
     let same = same_filled (shape_of a.bank.now) a.e a.old (view c.take.new.pass) x (c.in-Taken.ensures.same.shape ∙ c.requires.pass.1) c.fill_copy.ensures.only (grow p).keyed in
     let ends = c.swap_table-number.ensures in
     let at = sym c.requires.replaces.changed in
-    let root : root_in (held_words a.e (view c.take.new.pass)) ≡ suc (table_id t) = (grow p).keyed.root ∙ ap root_for is in
+    let root : root_in (held_unboxed a.e (view c.take.new.pass)) ≡ suc (table_id t) = (grow p).keyed.root ∙ ap root_for is in
     let out = taken_out a.called.now reply.Done c.swap_table-number.result (table_id t) (suc (table_id c.in-Taken.table)) x w ends.wrote
-    (subst (λ (n : ℕ). root_in (held_words n x) ≡ suc (table_id t)) at (ap root_in same.0 ∙ root))
-    (subst (λ (n : ℕ). root_in (held_words n w) ≡ suc (table_id c.in-Taken.table)) at ends.root)
+    (subst (λ (n : ℕ). root_in (held_unboxed n x) ≡ suc (table_id t)) at (ap root_in same.0 ∙ root))
+    (subst (λ (n : ℕ). root_in (held_unboxed n w) ≡ suc (table_id c.in-Taken.table)) at ends.root)
     (λ same_name. other p (root ∙ same_name)) in
     (c.requires.may.keyed.table_in t is, out.0, out.1)
 
@@ -178,7 +178,6 @@ returns-in-Taken-clause-added c =
     let x = view c.fill_copy.new.pass in
     let done = view c.swap_table-number.new.pass in
     let e = c.in-Taken.ensures in
-    let same = same_filled (shape_of a.bank.now) a.e a.old u x (e.same.shape ∙ c.requires.pass.1) c.fill_copy.ensures.only (grow p).keyed in
     let at = c.requires.replaces.changed in
     let w = c.swap_table-number.ensures in (
       refl,
@@ -187,10 +186,11 @@ returns-in-Taken-clause-added c =
         table = c.in-Taken.table;
         taken = u;
         tried = record { mid = e.did.0; freed = e.did.1; acts = e.did.2; collected = e.did.3; did = e.did.4; taking = e.did.5; has = e.did.6; floor = e.floor; same = e.same; keeps = e.keeps; hands = e.hands };
-        other = subst (λ (n : ℕ). root_in (held_words n u) ≢ suc (table_id c.in-Taken.table)) (sym at) (other p);
+        other = subst (λ (n : ℕ). root_in (held_unboxed n u) ≢ suc (table_id c.in-Taken.table)) (sym at) (other p);
         done = done;
-        wrote = filled_wrote a.called.now reply.Done c.swap_table-number.result u x done c.fill_copy.ensures.only (subst (λ (n : ℕ). root_in (held_words n x) ≡ root_in (held_words n u)) (sym at) (ap root_in same.0)) w.wrote;
-        root = subst (λ (n : ℕ). root_in (held_words n done) ≡ suc (table_id c.in-Taken.table)) (sym at) w.root;
-        retired = subst (λ (n : ℕ). Retires n done (view c.retire_old.new.pass)) (sym (grow p).keyed.root ∙ sym (ap (λ (n : ℕ). root_in (held_words n u)) at)) c.retire_old.ensures.retired;
+        wrote = filled_wrote a.called.now reply.Done c.swap_table-number.result u x done c.fill_copy.ensures.only (subst (λ (n : ℕ). held_words n x ≡ held_words n u) (sym at) (words_filled (shape_of a.bank.now) a.e a.old u x (e.same.shape ∙ c.requires.pass.1) c.fill_copy.ensures.only (grow p).keyed)) w.wrote;
+        root = subst (λ (n : ℕ). root_in (held_unboxed n done) ≡ suc (table_id c.in-Taken.table)) (sym at) w.root;
+        references = λ b. w.references b ∙ c.fill_copy.ensures.only.references b;
+        retired = subst (λ (n : ℕ). Retires n done (view c.retire_old.new.pass)) (sym (grow p).keyed.root ∙ sym (ap (λ (n : ℕ). root_in (held_unboxed n u)) at)) c.retire_old.ensures.retired;
       },
     )

@@ -8,14 +8,15 @@ use Rattle.ft_model.specs.Worlds.{length_of, serial_of}
 use Rattle.ft_layout.specs.Containers.{StandsAs}
 use Rattle.ft_trace.specs.declared.Shape.{Shape}
 use Rattle.ft_trace.specs.declared.View.{View}
-use Rattle.ft_trace.specs.Holds.{held_words, known_state}
+use Rattle.ft_trace.specs.Addresses.{container_count}
+use Rattle.ft_trace.specs.Holds.{held_unboxed, known_state}
 use Rattle.ft_trace.specs.Pictures.{ContainerWords, root_in}
 use Rattle.ft_trace.specs.ContainerStates.{ContainerState}
 use Rattle.ft_bank.specs.declared.table.Table.{Table}
 use Rattle.ft_bank.specs.Passes.{shape_of, view}
 use Rattle.ft_bank.specs.Whole.{OnlyLoaded}
 use Rattle.ft_bank.proofs.ShownReplies.{serials_have_room}
-use Rattle.ft_bank.proofs.KnownAfterWrites.{loaded_held, loaded_then, work_knows}
+use Rattle.ft_bank.proofs.KnownAfterWrites.{loaded_then, work_knows}
 use Rattle.ft_table_calls.proofs.Rooting.{loaded_filled}
 use Rattle.ft_table_calls.specs.declared.adding.Added.TheVariants as added
 use Rattle.ft_search.specs.OneEntryWrites.{MayWriteEntries}
@@ -51,8 +52,18 @@ only_last c =
     c.root_table-old.ensures.only)
     c.read_counts-next.ensures.only
 
-held_last : (c : After-read_counts-next) (o : ℕ) → held_words o (view c.read_counts-next.new.pass) ≡ held_words o (view c.args.pass.now)
-held_last c o = loaded_held (view c.args.pass.now) (view c.read_counts-next.new.pass) o (only_last c)
+-- loads leave what the words read of a container that the pass may write
+held_by : (k : Shape) (o : ℕ) (v u : View) → v.shape ≡ k → OnlyLoaded v u → MayWriteEntries k o v → held_unboxed o u ≡ held_unboxed o v
+held_by k o v u shape only may = only.unboxed o (subst (λ (z : Shape). o < container_count z) (sym shape) may.container) may.locked
+
+held_d : (c : After-read_counts-next) → held_unboxed c.args.d (view c.read_counts-next.new.pass) ≡ held_unboxed c.args.d (view c.args.pass.now)
+held_d c = held_by (shape_of c.args.bank.now) c.args.d (view c.args.pass.now) (view c.read_counts-next.new.pass) c.requires.pass.1 (only_last c) c.requires.may
+
+held_from : (c : After-read_counts-next) → held_unboxed c.args.d (view c.root_table-from.new.pass) ≡ held_unboxed c.args.d (view c.args.pass.now)
+held_from c = held_by (shape_of c.args.bank.now) c.args.d (view c.args.pass.now) (view c.root_table-from.new.pass) c.requires.pass.1 c.root_table-from.ensures.only c.requires.may
+
+held_e : (c : After-read_counts-next) → held_unboxed c.args.e (view c.read_counts-next.new.pass) ≡ held_unboxed c.args.e (view c.root_table-old.new.pass)
+held_e c = held_by (shape_of c.args.bank.now) c.args.e (view c.root_table-old.new.pass) (view c.read_counts-next.new.pass) c.root_table-old.ensures.pass.1 c.read_counts-next.ensures.only c.root_table-old.ensures.may
 
 known_last : (c : After-read_counts-next) (o : ℕ) → known_state o (view c.read_counts-next.new.pass) ≡ known_state o (view c.args.pass.now)
 known_last c o = work_knows (view c.args.pass.now) (view c.read_counts-next.new.pass) o (only_last c).work
@@ -60,12 +71,12 @@ known_last c o = work_knows (view c.args.pass.now) (view c.read_counts-next.new.
 -- ---- what the pass may do after them
 
 may_d : (c : After-read_counts-next) → MayWriteEntries (shape_of c.args.bank.now) c.args.d (view c.read_counts-next.new.pass)
-may_d c = may_loaded (shape_of c.args.bank.now) c.args.d (view c.args.pass.now) (view c.read_counts-next.new.pass) (only_last c) c.requires.may
+may_d c = may_loaded (shape_of c.args.bank.now) c.args.d (view c.args.pass.now) (view c.read_counts-next.new.pass) c.requires.pass.1 (only_last c) c.requires.may
 
 may_e : (c : After-read_counts-next) → MayWriteEntries (shape_of c.args.bank.now) c.args.e (view c.read_counts-next.new.pass)
-may_e c = may_loaded (shape_of c.args.bank.now) c.args.e (view c.args.pass.now) (view c.read_counts-next.new.pass) (only_last c) c.requires.other
+may_e c = may_loaded (shape_of c.args.bank.now) c.args.e (view c.args.pass.now) (view c.read_counts-next.new.pass) c.requires.pass.1 (only_last c) c.requires.other
 
-knows_by : (k : Shape) (o : ℕ) (old : Option Table) (v u : View) → MayWriteEntries k o u → held_words o u ≡ held_words o v → HasRootOf k o old v → KnowsKeyed k o old u
+knows_by : (k : Shape) (o : ℕ) (old : Option Table) (v u : View) → MayWriteEntries k o u → held_unboxed o u ≡ held_unboxed o v → HasRootOf k o old v → KnowsKeyed k o old u
 knows_by k o old v u may same root = record {
   container = may.container;
   keyed = may.keyed;
@@ -80,21 +91,21 @@ knows_d : (c : After-read_counts-next) → KnowsKeyed (shape_of c.args.bank.now)
 knows_d c =
     let a = c.args in
     knows_by (shape_of a.bank.now) a.d c.root_table-from.result (view c.root_table-from.new.pass) (view c.read_counts-next.new.pass) (may_d c)
-    (held_last c a.d ∙ sym (loaded_held (view a.pass.now) (view c.root_table-from.new.pass) a.d c.root_table-from.ensures.only)) c.root_table-from.ensures.root
+    (held_d c ∙ sym (held_from c)) c.root_table-from.ensures.root
 
 knows_e : (c : After-read_counts-next) → KnowsKeyed (shape_of c.args.bank.now) c.args.e c.root_table-old.result (view c.read_counts-next.new.pass)
 knows_e c =
     let a = c.args in
     knows_by (shape_of a.bank.now) a.e c.root_table-old.result (view c.root_table-old.new.pass) (view c.read_counts-next.new.pass) (may_e c)
-    (loaded_held (view c.root_table-old.new.pass) (view c.read_counts-next.new.pass) a.e c.read_counts-next.ensures.only) c.root_table-old.ensures.root
+    (held_e c) c.root_table-old.ensures.root
 
 -- ---- what was counted
 
-counts_d : (c : After-read_counts-next) → AreCounts (held_words c.args.d (view c.read_counts-next.new.pass)).block c.read_counts-counts.result
+counts_d : (c : After-read_counts-next) → AreCounts (held_unboxed c.args.d (view c.read_counts-next.new.pass)).block c.read_counts-counts.result
 counts_d c =
     let a = c.args in
     subst (λ (z : ContainerWords). AreCounts z.block c.read_counts-counts.result)
-    (loaded_held (view a.pass.now) (view c.root_table-from.new.pass) a.d c.root_table-from.ensures.only ∙ sym (held_last c a.d)) c.read_counts-counts.ensures.counts
+    (held_from c ∙ sym (held_d c)) c.read_counts-counts.ensures.counts
 
 count_is : (c : After-read_counts-next) → c.read_counts-counts.result.count ≡ length_of (known_state c.args.d (view c.read_counts-next.new.pass)).content
 count_is c =
@@ -104,7 +115,7 @@ next_is : (c : After-read_counts-next) → c.read_counts-next.result.next ≡ se
 next_is c =
     let a = c.args in
     (counts_known c.words_are_of_one_content.ensures.head (shape_of a.bank.now) a.e c.root_table-old.result (view c.read_counts-next.new.pass) c.read_counts-next.result (knows_e c)
-    (subst (λ (z : ContainerWords). AreCounts z.block c.read_counts-next.result) (sym (loaded_held (view c.root_table-old.new.pass) (view c.read_counts-next.new.pass) a.e c.read_counts-next.ensures.only)) c.read_counts-next.ensures.counts)).1
+    (subst (λ (z : ContainerWords). AreCounts z.block c.read_counts-next.result) (sym (held_e c)) c.read_counts-next.ensures.counts)).1
 
 pairs_of : (c : After-read_counts-next) → (pairs : DictContent) × ((known_state c.args.d (view c.read_counts-next.new.pass)).content ≡ content.Dict pairs)
 pairs_of c =
@@ -122,8 +133,8 @@ few_is c =
     let u = view c.read_counts-next.new.pass in
     let p = pairs_of c in
     subst (λ (z : Content). length_of z ≤ most_pairs) (sym p.1)
-    (pairs_few (shape_of a.bank.now).texts (held_words a.d u).block (0 ∷ 0 ∷ (held_words a.d u).table) (known_state a.d u).table p.0
-    (subst (λ (z : Content). StandsAs (shape_of a.bank.now).texts (held_words a.d u).block (0 ∷ 0 ∷ (held_words a.d u).table) (known_state a.d u).table z) p.1 (may_d c).stands))
+    (pairs_few (shape_of a.bank.now).texts (held_unboxed a.d u).block (0 ∷ 0 ∷ (held_unboxed a.d u).table) (known_state a.d u).table p.0
+    (subst (λ (z : Content). StandsAs (shape_of a.bank.now).texts (held_unboxed a.d u).block (0 ∷ 0 ∷ (held_unboxed a.d u).table) (known_state a.d u).table z) p.1 (may_d c).stands))
 
 -- the call, with the class that was computed
 replaces_as : (c : After-read_counts-next) (takes : Option ℕ) → copy_takes c.read_counts-counts.result.count ≡ takes → Replaces c.args.e c.args.called.now (copied (known_state c.args.e (view c.read_counts-next.new.pass)).content (known_state c.args.d (view c.read_counts-next.new.pass)).content) takes (view c.read_counts-next.new.pass)
@@ -150,7 +161,7 @@ read_counts-counts-requires-clause-locked c = c.root_table-from.ensures.may.lock
 
 pub root_table-old-requires-clause-may : goal.root_table-old-requires-clause-may
 root_table-old-requires-clause-may c =
-    may_loaded (shape_of c.args.bank.now) c.args.e (view c.args.pass.now) (view c.read_counts-counts.new.pass) (only_first (goal.at.root_table-old-requires-clause-may c).After-read_counts-counts) c.requires.other
+    may_loaded (shape_of c.args.bank.now) c.args.e (view c.args.pass.now) (view c.read_counts-counts.new.pass) c.requires.pass.1 (only_first (goal.at.root_table-old-requires-clause-may c).After-read_counts-counts) c.requires.other
 
 pub read_counts-next-requires-clause-locked : goal.read_counts-next-requires-clause-locked
 read_counts-next-requires-clause-locked c = c.root_table-old.ensures.may.locked

@@ -7,7 +7,7 @@ use Rattle.ft_layout.specs.Tables.{dict_room}
 use Rattle.ft_layout.specs.Containers.{class_mask}
 use Rattle.ft_keys.specs.declared.walk.Way.TheVariants as way
 use Rattle.ft_trace.specs.Addresses.{class_of, slots}
-use Rattle.ft_trace.specs.Holds.{held_words, in_hand, known_state}
+use Rattle.ft_trace.specs.Holds.{held_unboxed, in_hand, known_state}
 use Rattle.ft_bank.specs.Passes.{shape_of, view}
 use Rattle.ft_bank.specs.TableNames.{table_id}
 use Rattle.ft_bank.proofs.TableAddresses.{class_is, named}
@@ -29,7 +29,7 @@ pub fill-requires-clause-fill : goal.fill-requires-clause-fill
 fill-requires-clause-fill c =
     let a = c.args in
     let v = view a.pass.now in
-    let head = c.words_are_of_one_content.ensures.head (shape_of a.bank.now).texts (held_words a.d v).block _ (known_state a.d v).table (known_state a.d v).content c.requires.keyed.stands in
+    let head = c.words_are_of_one_content.ensures.head (shape_of a.bank.now).texts (held_unboxed a.d v).block _ (known_state a.d v).table (known_state a.d v).content c.requires.keyed.stands in
     sym c.requires.counts.1 ∙ head.fill_is
 
 pub fill-requires-clause-room : goal.fill-requires-clause-room

@@ -1,9 +1,11 @@
-use Rattle.std.proofs.Common.{◌≡◌, ◌<◌, false, sym, ap, ◌∙◌, subst}
+use Rattle.std.proofs.Common.{◌≡◌, ◌≢◌, ◌<◌, false, sym, ap, ◌∙◌, subst}
 use Rattle.std.specs.Prelude.{slice_index}
 use Rattle.ft_model.specs.declared.script.Kind.{Kind}
 use Rattle.ft_trace.specs.declared.View.{View}
 use Rattle.ft_trace.specs.Acts.{has_committed}
-use Rattle.ft_trace.specs.Holds.{held_words, known_state}
+use Rattle.ft_trace.specs.Addresses.{class_of, slots}
+use Rattle.ft_trace.specs.Pictures.{entry_field}
+use Rattle.ft_trace.specs.Holds.{held_unboxed, known_state}
 use Rattle.ft_trace.specs.ContainerStates.{kind_in}
 use Rattle.ft_trace.specs.WholeWrites.{MayPuts, with_puts}
 use Rattle.ft_trace.proofs.Cases.{hit}
@@ -14,6 +16,7 @@ use Rattle.ft_search.proofs.Changing.{Changing, kind_is}
 use Rattle.ft_search.proofs.Deletions.{deletes_known}
 use Rattle.ft_search.proofs.ReadyCommits.{entry_finishes, whole_root, whole_write, writes_begun}
 use Rattle.ft_search.proofs.Laws.{DictLaws, SetLaws}
+use Rattle.ft_search.proofs.Puts.{same_done}
 use Rattle.ft_search.proofs.deleting.delete_entry.Goals as goal
 use Rattle.ft_search.proofs.deleting.delete_entry.Goals.{After-start_write}
 
@@ -39,9 +42,10 @@ sets c =
       deletes = c.words_follow_a_set.ensures.deleted;
     }
 
-change : (c : After-start_write) → Changing (shape_of c.args.bank.now).texts (table_id c.args.table) (held_words c.args.o (view c.args.pass.now)) (known_state c.args.o (view c.args.pass.now)) c.args.place (deletion (table_id c.args.table) c.args.place c.args.key (held_words c.args.o (view c.args.pass.now)))
+change : (c : After-start_write) → Changing (shape_of c.args.bank.now).texts (table_id c.args.table) (held_unboxed c.args.o (view c.args.pass.now)) (known_state c.args.o (view c.args.pass.now)) c.args.place (deletion (table_id c.args.table) c.args.place c.args.key (held_unboxed c.args.o (view c.args.pass.now)))
     (record { content = without_key (known_state c.args.o (view c.args.pass.now)).content c.args.key; table = (known_state c.args.o (view c.args.pass.now)).table })
-    × (0 < slice_index (held_words c.args.o (view c.args.pass.now)).block 1)
+    × (0 < slice_index (held_unboxed c.args.o (view c.args.pass.now)).block 1)
+    × (entry_field (slots (class_of (table_id c.args.table))) (held_unboxed c.args.o (view c.args.pass.now)).table c.args.place 4 ≢ 4)
 change c = deletes_known (dicts c) (sets c) (shape_of c.args.bank.now) c.args.o c.args.table (view c.args.pass.now) c.requires.pass.1 c.args.pass.now.possible c.requires.may c.requires.table c.args.place c.args.key c.requires.entry
 
 pub put_deleted-requires-clause-writes : goal.put_deleted-requires-clause-writes
@@ -60,7 +64,12 @@ put_deleted-requires-clause-early c =
 pub put_deleted-requires-clause-some : goal.put_deleted-requires-clause-some
 put_deleted-requires-clause-some c =
     let a = c.args in
-    subst (λ (z : View). 0 < slice_index (held_words a.o z).block 1) (sym c.start_write.ensures.1) (change (goal.at.put_deleted-requires-clause-some c).After-start_write).1
+    subst (λ (z : View). 0 < slice_index (held_unboxed a.o z).block 1) (sym c.start_write.ensures.1) (change (goal.at.put_deleted-requires-clause-some c).After-start_write).1
+
+pub put_deleted-requires-clause-plain : goal.put_deleted-requires-clause-plain
+put_deleted-requires-clause-plain c =
+    let a = c.args in
+    subst (λ (z : View). entry_field (slots (class_of (table_id a.table))) (held_unboxed a.o z).table a.place 4 ≢ 4) (sym c.start_write.ensures.1) (change (goal.at.put_deleted-requires-clause-plain c).After-start_write).2
 
 pub put_deleted-requires-clause-may : goal.put_deleted-requires-clause-may
 put_deleted-requires-clause-may c =
@@ -69,8 +78,8 @@ put_deleted-requires-clause-may c =
     let v = view a.pass.now in
     let kind_eq = kind_is k v a.o c.requires.pass.1 a.pass.now.possible c.requires.may.locked in
     let puts = (change (goal.at.put_deleted-requires-clause-may c).After-start_write).0.puts in
-    subst (λ (z : View). MayPuts (kind_in k.starts a.o) (table_id a.table) (known_state a.o z).content false (held_words a.o z) (deletion (table_id a.table) a.place a.key (held_words a.o z))) (sym c.start_write.ensures.1)
-    (subst (λ (z : Kind). MayPuts z (table_id a.table) (known_state a.o v).content false (held_words a.o v) (deletion (table_id a.table) a.place a.key (held_words a.o v))) kind_eq puts)
+    subst (λ (z : View). MayPuts (kind_in k.starts a.o) (table_id a.table) (known_state a.o z).content false (held_unboxed a.o z) (deletion (table_id a.table) a.place a.key (held_unboxed a.o z))) (sym c.start_write.ensures.1)
+    (subst (λ (z : Kind). MayPuts z (table_id a.table) (known_state a.o v).content false (held_unboxed a.o v) (deletion (table_id a.table) a.place a.key (held_unboxed a.o v))) kind_eq puts)
 
 pub finish_entry-requires-clause-place : goal.finish_entry-requires-clause-place
 finish_entry-requires-clause-place c = c.requires.entry.low
@@ -82,8 +91,8 @@ finish_entry-requires-clause-may c =
     let v = view a.pass.now in
     let e = c.put_deleted.ensures in
     let d = change (goal.at.finish_entry-requires-clause-may c).After-start_write in
-    let before : held_words a.o (view c.start_write.new.pass) ≡ held_words a.o v = ap (held_words a.o) c.start_write.ensures.1 in
-    entry_finishes k a.o a.table v (view c.start_write.new.pass) (view c.put_deleted.new.pass) c.start_write.result c.requires.may c.requires.pass.1 c.start_write.ensures.1 e.only a.place (deletion (table_id a.table) a.place a.key (held_words a.o v)) _ d.0
+    let before : held_unboxed a.o (view c.start_write.new.pass) ≡ held_unboxed a.o v = ap (held_unboxed a.o) c.start_write.ensures.1 in
+    entry_finishes k a.o a.table v (view c.start_write.new.pass) (view c.put_deleted.new.pass) c.start_write.result c.requires.may c.requires.pass.1 c.start_write.ensures.1 e.only a.place (deletion (table_id a.table) a.place a.key (held_unboxed a.o v)) _ d.0
     (kind_is k v a.o c.requires.pass.1 a.pass.now.possible c.requires.may.locked)
     (e.words ∙ (λ i. with_puts (before i) (deletion (table_id a.table) a.place a.key (before i)))) e.writes.root a.called.now a.said.now c.requires.leaves
 
@@ -96,3 +105,11 @@ pub returns-clause-root : goal.returns-clause-root
 returns-clause-root c =
     let a = c.args in
     whole_root a.o (view a.pass.now) (view c.start_write.new.pass) (view c.put_deleted.new.pass) c.start_write.result c.start_write.ensures.1 c.put_deleted.ensures.only a.called.now a.said.now c.finish_entry.result (view c.finish_entry.new.pass) c.requires.leaves.changed c.finish_entry.ensures.ends (c.put_deleted.ensures.writes.root ∙ sym c.requires.table.root)
+
+pub returns-clause-references : goal.returns-clause-references
+returns-clause-references c =
+    let a = c.args in
+    let k = shape_of a.bank.now in
+    let w = view c.put_deleted.new.pass in
+    let before = same_done k (view a.pass.now) w c.requires.pass.1 c.put_deleted.ensures.pass.1 c.requires.may.boxes c.put_deleted.ensures.writes.boxes in
+    λ b. c.finish_entry.ensures.references b ∙ before b

@@ -1,6 +1,7 @@
 use Rattle.std.proofs.Common.{ℕ, ap, ◌∙◌}
 use Rattle.ft_trace.specs.declared.View.{View}
-use Rattle.ft_trace.specs.Holds.{held_words}
+use Rattle.ft_trace.specs.Boxes.{references_held}
+use Rattle.ft_trace.specs.Holds.{held_unboxed}
 use Rattle.ft_trace.specs.Pictures.{root_in}
 use Rattle.ft_bank.specs.Passes.{shape_of, view}
 use Rattle.ft_search.proofs.ReadyCommits.{nothing_commits, nothing_stands, nothing_shut, nothing_wrote}
@@ -32,5 +33,10 @@ returns-clause-wrote c =
 pub returns-clause-root : goal.returns-clause-root
 returns-clause-root c =
     let a = c.args in
-    let root : View → ℕ = λ v. root_in (held_words a.o v) in
+    let root : View → ℕ = λ v. root_in (held_unboxed a.o v) in
     ap root c.stop_write.ensures.1 ∙ (ap root c.commit-number.ensures.did.1.1 ∙ ap root c.start_write.ensures.1)
+
+pub returns-clause-references : goal.returns-clause-references
+returns-clause-references c b =
+    let held : View → ℕ = λ v. references_held v.shape b v.log in
+    ap held c.stop_write.ensures.1 ∙ (ap held c.commit-number.ensures.did.1.1 ∙ ap held c.start_write.ensures.1)

@@ -5,7 +5,7 @@ use Rattle.ft_trace.specs.declared.Act.TheVariants.{ReadBlock}
 use Rattle.ft_trace.specs.declared.Shape.{Shape}
 use Rattle.ft_trace.specs.declared.View.{View}
 use Rattle.ft_trace.specs.Addresses.{container_count}
-use Rattle.ft_trace.specs.Holds.{held_words, known_state}
+use Rattle.ft_trace.specs.Holds.{held_unboxed, known_state}
 use Rattle.ft_trace.specs.ContainerStates.{kind_in}
 use Rattle.ft_bank.specs.Answered.{Answered}
 use Rattle.ft_bank.specs.Passes.{shape_of, view}
@@ -25,7 +25,7 @@ answer_held-requires-clause-shown c n =
     let loaded = loaded_by (ReadBlock o 1 count) v u tt c.read_block-count.ensures.did.1 in
     let low = subst (λ (z : Shape). o < container_count z) (sym c.requires.pass.1) c.requires.container in
     let is = c.requires.call ∙ ap (λ (z : Shape). len_of (kind_in z.starts o) o) (sym c.requires.pass.1) in
-    let counts : count ≡ length_of (known_state o v).content = c.read_block-count.ensures.held c.requires.locked ∙ count_is k.texts (held_words o v) (known_state o v) c.requires.stands in
+    let counts : count ≡ length_of (known_state o v).content = c.read_block-count.ensures.held c.requires.locked ∙ count_is k.texts (held_unboxed o v) (known_state o v) c.requires.stands in
     len_held v u c.args.call.now o count n loaded c.requires.left low c.requires.locked is counts
 
 pub returns-clause-answered : goal.returns-clause-answered

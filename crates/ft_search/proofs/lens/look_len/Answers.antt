@@ -9,7 +9,7 @@ use Rattle.ft_bank.proofs.LastLoads.{between_last}
 use Rattle.ft_search.specs.Lengths.{len_of, IsGlanceOf}
 use Rattle.ft_search.proofs.Asking.{may_ask, answered_after}
 use Rattle.ft_search.proofs.Lengths.{len_shown}
-use Rattle.ft_search.proofs.Rounding.{looks_load}
+use Rattle.ft_search.proofs.Rounding.{looks_did}
 use Rattle.ft_search.proofs.Running.{did_log}
 use Rattle.ft_search.proofs.lens.look_len.Goals as goal
 
@@ -22,7 +22,7 @@ answer_look-requires-clause-shown c =
     let w = view c.look_count.new.pass in
     let m = c.in-Seen.ensures.looked in
     let same = c.look_count.ensures.pass.1 in
-    let loaded : OnlyLoaded v w = subst (OnlyLoaded v) (sym m.2.1) (looks_load m.0 v m.1) in
+    let loaded : OnlyLoaded v w = looks_did m.0 c.args.pass.now c.look_count.new.pass m.1 m.2 in
     let own = did_log m.0 c.args.pass.now c.look_count.new.pass m.2 in
     let is : c.args.call.now ≡ len_of (kind_in w.shape.starts o) o = c.requires.call ∙ ap (λ (k : Shape). len_of (kind_in k.starts o) o) (sym same) in
     len_shown v w c.args.call.now o count n m.0
@@ -38,7 +38,7 @@ returns-in-Seen-clause-looked c =
     let w = view c.look_count.new.pass in
     let z = view c.answer_look.new.pass in
     let m = c.in-Seen.ensures.looked in
-    let loaded : OnlyLoaded v w = subst (OnlyLoaded v) (sym m.2.1) (looks_load m.0 v m.1) in
+    let loaded : OnlyLoaded v w = looks_did m.0 c.args.pass.now c.look_count.new.pass m.1 m.2 in
     let own = did_log m.0 c.args.pass.now c.look_count.new.pass m.2 in
     let a = answered_after (IsLastBetween o n) v w z c.args.call.now (reply.Count count) n m.0 loaded own (between_last o n m.0 m.3.last) c.answer_look.ensures.did.1 c.args.pass.now.settled c.answer_look.new.pass.possible m.3.last in
     subst (λ r. IsGlanceOf o c.args.call.now v z r) (sym c.answer_look.ensures.done)
@@ -49,7 +49,7 @@ returns-in-Contended-clause-looked c =
     let v = view c.args.pass.now in
     let m = c.in-Contended.ensures.looked in
     record {
-      loaded = subst (OnlyLoaded v) (sym m.2.1) (looks_load m.0 v m.1);
+      loaded = looks_did m.0 c.args.pass.now c.look_count.new.pass m.1 m.2;
       part = m.0;
       looks = m.1;
       own = did_log m.0 c.args.pass.now c.look_count.new.pass m.2;

@@ -28,7 +28,7 @@ returns-in-Some-clause-ended c =
     let t = table_id c.in-Some.table in
     let is = c.in-Some.ensures.named in
     subst (λ (z : ℕ). EndsRound (shape_of c.args.bank.now) c.args.o c.args.key z c.args.pass.now c.look_in.new.pass c.look_in.result) (sym is)
-    (at_table (shape_of c.args.bank.now) c.args.o c.args.key t c.args.pass.now c.look_in.new.pass c.look_in.result c.requires.last.0
+    (at_table (shape_of c.args.bank.now) c.args.o c.args.key t c.args.pass.now c.look_in.new.pass c.look_in.result c.requires.last.0 c.look_in.ensures.pass.1
     (c.requires.last.1 ∙ ap (λ (z : ℕ). ReadRoot c.args.o z ∷ c.requires.last.0) is) c.look_in.ensures.ended)
 
 pub returns-in-None-clause-spends : goal.returns-in-None-clause-spends

@@ -5,7 +5,7 @@ use Rattle.ft_bank.specs.TableNames.{table_id}
 use Rattle.ft_search.specs.Rounds.{live_acts, entry_acts}
 use Rattle.ft_search.proofs.Spending.{seen_none}
 use Rattle.ft_search.proofs.Walking.{walked_more, walked_past}
-use Rattle.ft_search.proofs.SearchEnds.{moved_passed, stops_seen, closes_here}
+use Rattle.ft_search.proofs.SearchEnds.{moved_passed, stops_seen, closes_here, seen_inner}
 use Rattle.ft_search.proofs.rounds.look_at.Goals as goal
 
 pub returns-then-not-stood-clause-turns : goal.returns-then-not-stood-clause-turns
@@ -13,7 +13,7 @@ returns-then-not-stood-clause-turns c slot earlier left w =
     let s = c.args.words.now in
     let t = table_id s.table in
     let seen = c.read_between-seen.result in
-    (entry_acts t c.args.place seen, tt, c.read_between-seen.ensures.did, stops_seen (shape_of s.bank.now) s.o t c.args.key slot c.args.place earlier c.requires.low seen (c.if-not-stood.ensures.no refl))
+    (entry_acts t c.args.place seen, seen_inner t c.args.place seen, c.read_between-seen.ensures.did, stops_seen (shape_of s.bank.now) s.o t c.args.key slot c.args.place earlier c.requires.low seen (c.if-not-stood.ensures.no refl))
 
 pub returns-then-seen-kind_of-clause-turns : goal.returns-then-seen-kind_of-clause-turns
 returns-then-seen-kind_of-clause-turns c slot earlier left w =
@@ -26,7 +26,7 @@ returns-then-seen-kind_of-clause-turns c slot earlier left w =
     let part = live_acts t slot c.args.place key earlier in
     let new = entry_acts t c.args.place seen in (
       new,
-      tt,
+      seen_inner t c.args.place seen,
       c.read_between-seen.ensures.did,
       walked_past k s.o t key slot left (new ++ part) (walked_more k s.o t key (slot ∷ left) new part w)
           (moved_passed k s.o t key slot c.args.place earlier seen stood.0 stood.1
@@ -43,9 +43,9 @@ returns-clause-turns c slot earlier left w =
     let stood = c.if-not-stood.ensures.yes refl in
     let live : seen.key_kind ≡ key_kind key = omega (arith, c.if-seen-kind_of.false, c.kind_of.ensures) in (
       entry_acts t c.args.place seen,
-      tt,
+      seen_inner t c.args.place seen,
       c.read_between-seen.ensures.did,
-      closes_here k s.o t key slot c.args.place earlier seen c.requires.low stood.0 stood.1 live,
+      closes_here k s.o t key slot c.args.place earlier w.container w.keyed seen c.requires.low stood.0 stood.1 live c.read_between-seen.ensures.sees,
     )
 
 pub returns-then-not-stood-clause-index : goal.returns-then-not-stood-clause-index

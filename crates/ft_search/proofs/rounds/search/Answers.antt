@@ -13,6 +13,8 @@ use Rattle.ft_search.specs.Rounds.{Walked, ClosesAt, TurnsAfter}
 use Rattle.ft_search.proofs.Running.{at_same}
 use Rattle.ft_search.proofs.Spending.{walk_low, spends_on}
 use Rattle.ft_search.proofs.Walking.{walked_none, turns_on}
+use Rattle.ft_search.proofs.SearchedReads.{way_keyed}
+use Rattle.ft_trace.specs.Kinds.{IsKeyed}
 use Rattle.ft_search.proofs.WordPlaces.{mask_is, room_for, slots_is, walk_is}
 use Rattle.ft_search.proofs.rounds.search.Goals as goal
 use Rattle.ft_search.proofs.rounds.search.Goals.{After-look_slot}
@@ -48,7 +50,7 @@ module _ (c : After-look_slot) where
   not_walked =
       let s = c.args.words.now in
       let k = shape_of s.bank.now in
-      walked_none k s.o (table_id s.table) c.args.key first
+      walked_none k s.o (table_id s.table) c.args.key c.requires.can.container (subst IsKeyed (sym c.requires.way) (way_keyed c.args.way)) first
       (sym begins
       ∙ ((λ d. walk_slots c.args.way (c.requires.hash d) (c.requires.can.mask d))
       ∙ (walk_is c.args.way k.texts s.table.class c.args.key

@@ -6,4 +6,4 @@ pub seek_by-requires-clause-knows : goal.seek_by-requires-clause-knows
 seek_by-requires-clause-knows c = may_knows (shape_of c.args.bank.now) c.args.o (view c.args.pass.now) c.requires.may
 
 pub returns-clause-may : goal.returns-clause-may
-returns-clause-may c = may_loaded (shape_of c.args.bank.now) c.args.o (view c.args.pass.now) (view c.seek_by.new.pass) c.seek_by.ensures.keeps c.requires.may
+returns-clause-may c = may_loaded (shape_of c.args.bank.now) c.args.o (view c.args.pass.now) (view c.seek_by.new.pass) c.requires.pass.1 c.seek_by.ensures.keeps c.requires.may

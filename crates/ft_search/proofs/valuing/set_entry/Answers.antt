@@ -1,8 +1,8 @@
-use Rattle.std.proofs.Common.{◌≡◌, false, sym, ap, ◌∙◌, subst, true≢false}
+use Rattle.std.proofs.Common.{◌≡◌, None, false, sym, ap, ◌∙◌, subst, true≢false}
 use Rattle.ft_model.specs.declared.script.Kind.{Kind}
 use Rattle.ft_trace.specs.declared.View.{View}
 use Rattle.ft_trace.specs.Acts.{has_committed}
-use Rattle.ft_trace.specs.Holds.{held_words, known_state}
+use Rattle.ft_trace.specs.Holds.{held_unboxed, known_state}
 use Rattle.ft_trace.specs.Pictures.{entry_field}
 use Rattle.ft_trace.specs.ContainerStates.{kind_in}
 use Rattle.ft_trace.specs.WholeWrites.{MayPuts, with_puts}
@@ -14,6 +14,7 @@ use Rattle.ft_trace.specs.EntryWrites.{value_puts}
 use Rattle.ft_search.specs.OneEntryWrites.{with_value_at, Leaves}
 use Rattle.ft_search.proofs.Changing.{Changing, kind_is}
 use Rattle.ft_search.proofs.OtherValues.{ValueLaws, values_known}
+use Rattle.ft_search.proofs.Puts.{same_done}
 use Rattle.ft_search.proofs.ReadyCommits.{entry_finishes, whole_root, whole_write, writes_begun}
 use Rattle.ft_search.proofs.valuing.set_entry.Goals as goal
 use Rattle.ft_search.proofs.valuing.set_entry.Goals.{After-start_write, After-words_follow_a_dict}
@@ -45,7 +46,7 @@ write_nothing-requires-clause-leaves c =
 
 -- ---- it has another one
 
-change : (w : After-words_follow_a_dict) → (c : After-start_write) → Changing (shape_of c.args.bank.now).texts (table_id c.args.table) (held_words c.args.d (view c.args.pass.now)) (known_state c.args.d (view c.args.pass.now)) c.args.place (value_puts (slots (class_of (table_id c.args.table))) (held_words c.args.d (view c.args.pass.now)).table c.args.place c.args.value)
+change : (w : After-words_follow_a_dict) → (c : After-start_write) → Changing (shape_of c.args.bank.now).texts (table_id c.args.table) (held_unboxed c.args.d (view c.args.pass.now)) (known_state c.args.d (view c.args.pass.now)) c.args.place (value_puts (slots (class_of (table_id c.args.table))) (held_unboxed c.args.d (view c.args.pass.now)).table c.args.place None c.args.value)
     (record { content = with_value_at (known_state c.args.d (view c.args.pass.now)).content c.args.key c.args.value; table = (known_state c.args.d (view c.args.pass.now)).table })
 change w c =
     let a = c.args in
@@ -70,12 +71,12 @@ put_value-requires-clause-early c =
 pub put_value-requires-clause-old_kind : goal.put_value-requires-clause-old_kind
 put_value-requires-clause-old_kind c =
     let a = c.args in
-    c.requires.old_kind ∙ sym (ap (λ (z : View). entry_field (slots (class_of (table_id a.table))) (held_words a.d z).table a.place 4) c.start_write.ensures.1)
+    c.requires.old_kind ∙ sym (ap (λ (z : View). entry_field (slots (class_of (table_id a.table))) (held_unboxed a.d z).table a.place 4) c.start_write.ensures.1)
 
 pub put_value-requires-clause-old_payload : goal.put_value-requires-clause-old_payload
 put_value-requires-clause-old_payload c =
     let a = c.args in
-    c.requires.old_payload ∙ sym (ap (λ (z : View). entry_field (slots (class_of (table_id a.table))) (held_words a.d z).table a.place 5) c.start_write.ensures.1)
+    c.requires.old_payload ∙ sym (ap (λ (z : View). entry_field (slots (class_of (table_id a.table))) (held_unboxed a.d z).table a.place 5) c.start_write.ensures.1)
 
 pub put_value-requires-clause-may : goal.put_value-requires-clause-may
 put_value-requires-clause-may c =
@@ -84,8 +85,8 @@ put_value-requires-clause-may c =
     let v = view a.pass.now in
     let kind_eq = kind_is k v a.d c.requires.pass.1 a.pass.now.possible c.requires.may.locked in
     let puts = (change (goal.at.put_value-requires-clause-may c).After-words_follow_a_dict (goal.at.put_value-requires-clause-may c).After-start_write).puts in
-    subst (λ (z : View). MayPuts (kind_in k.starts a.d) (table_id a.table) (known_state a.d z).content false (held_words a.d z) (value_puts (slots (class_of (table_id a.table))) (held_words a.d z).table a.place a.value)) (sym c.start_write.ensures.1)
-    (subst (λ (z : Kind). MayPuts z (table_id a.table) (known_state a.d v).content false (held_words a.d v) (value_puts (slots (class_of (table_id a.table))) (held_words a.d v).table a.place a.value)) kind_eq puts)
+    subst (λ (z : View). MayPuts (kind_in k.starts a.d) (table_id a.table) (known_state a.d z).content false (held_unboxed a.d z) (value_puts (slots (class_of (table_id a.table))) (held_unboxed a.d z).table a.place None a.value)) (sym c.start_write.ensures.1)
+    (subst (λ (z : Kind). MayPuts z (table_id a.table) (known_state a.d v).content false (held_unboxed a.d v) (value_puts (slots (class_of (table_id a.table))) (held_unboxed a.d v).table a.place None a.value)) kind_eq puts)
 
 pub finish_entry-requires-clause-place : goal.finish_entry-requires-clause-place
 finish_entry-requires-clause-place c = c.requires.entry.low
@@ -97,10 +98,10 @@ finish_entry-requires-clause-may c =
     let v = view a.pass.now in
     let e = c.put_value.ensures in
     let d = change (goal.at.finish_entry-requires-clause-may c).After-words_follow_a_dict (goal.at.finish_entry-requires-clause-may c).After-start_write in
-    let before : held_words a.d (view c.start_write.new.pass) ≡ held_words a.d v = ap (held_words a.d) c.start_write.ensures.1 in
-    entry_finishes k a.d a.table v (view c.start_write.new.pass) (view c.put_value.new.pass) c.start_write.result c.requires.may c.requires.pass.1 c.start_write.ensures.1 e.only a.place (value_puts (slots (class_of (table_id a.table))) (held_words a.d v).table a.place a.value) _ d
+    let before : held_unboxed a.d (view c.start_write.new.pass) ≡ held_unboxed a.d v = ap (held_unboxed a.d) c.start_write.ensures.1 in
+    entry_finishes k a.d a.table v (view c.start_write.new.pass) (view c.put_value.new.pass) c.start_write.result c.requires.may c.requires.pass.1 c.start_write.ensures.1 e.only a.place (value_puts (slots (class_of (table_id a.table))) (held_unboxed a.d v).table a.place None a.value) _ d
     (kind_is k v a.d c.requires.pass.1 a.pass.now.possible c.requires.may.locked)
-    (e.words ∙ (λ i. with_puts (before i) (value_puts (slots (class_of (table_id a.table))) (before i).table a.place a.value))) e.writes.root a.called.now a.said.now c.requires.leaves
+    (e.words ∙ (λ i. with_puts (before i) (value_puts (slots (class_of (table_id a.table))) (before i).table a.place None a.value))) e.writes.root a.called.now a.said.now c.requires.leaves
 
 pub returns-clause-wrote : goal.returns-clause-wrote
 returns-clause-wrote c =
@@ -111,3 +112,11 @@ pub returns-clause-root : goal.returns-clause-root
 returns-clause-root c =
     let a = c.args in
     whole_root a.d (view a.pass.now) (view c.start_write.new.pass) (view c.put_value.new.pass) c.start_write.result c.start_write.ensures.1 c.put_value.ensures.only a.called.now a.said.now c.finish_entry.result (view c.finish_entry.new.pass) c.requires.leaves.changed c.finish_entry.ensures.ends (c.put_value.ensures.writes.root ∙ sym c.requires.table.root)
+
+pub returns-clause-references : goal.returns-clause-references
+returns-clause-references c =
+    let a = c.args in
+    let v = view a.pass.now in
+    let u = view c.put_value.new.pass in
+    let same = same_done (shape_of a.bank.now) v u c.requires.pass.1 c.put_value.ensures.pass.1 c.requires.may.boxes c.put_value.ensures.writes.boxes in
+    λ b. c.finish_entry.ensures.references b ∙ same b

@@ -7,7 +7,6 @@ use Rattle.ft_section.specs.Floors.{first_owned, got_by}
 use Rattle.ft_section.proofs.Goings.{found_then}
 use Rattle.ft_section.proofs.Releases.{only_then}
 use Rattle.ft_section.specs.LockTakings.{IsOf}
-use Rattle.ft_trace.specs.Owners.{LocksOnly}
 use Rattle.ft_trace.proofs.Owning.{locks_only_then, locks_only_weaker, same_locks_only}
 use Rattle.ft_section.proofs.calls.take_for.Goals as goal
 

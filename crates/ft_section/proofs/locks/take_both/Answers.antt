@@ -1,5 +1,5 @@
 use Rattle.std.proofs.Common.{None, ◌≡◌, ◌<◌, ℕ, ◌⊎◌, true, inl, inr, ap, ◌∙◌, subst, sym}
-use Rattle.std.proofs.lemmas.Result.{IfErr-weaker}
+use Rattle.std.proofs.lemmas.Result.{IfErr-weaker, on_ok_weaker}
 use Rattle.ft_bank.specs.Passes.{view}
 use Rattle.ft_bank.specs.PassSections.{Stack, stack_of}
 use Rattle.ft_bank.specs.declared.sections.Taking.{Taking}
@@ -12,7 +12,7 @@ use Rattle.ft_trace.specs.Acts.{has_lock}
 use Rattle.std.specs.Prelude.{Option}
 use Rattle.ft_trace.specs.declared.Shape.{Shape}
 use Rattle.ft_trace.specs.Addresses.{container_count}
-use Rattle.ft_section.specs.Floors.{owner_of, owner_or, first_found}
+use Rattle.ft_section.specs.Floors.{FindsSame, owner_of, owner_or, first_found}
 use Rattle.ft_section.proofs.FloorLogs.{owner_none}
 use Rattle.ft_trace.specs.Owners.{LocksOnly}
 use Rattle.ft_trace.proofs.Owning.{locks_only_then, locks_only_weaker}
@@ -75,3 +75,17 @@ returns-clause-only c =
     (locks_only_weaker (λ r. r ≡ (stack_of c.put_own.new.self).own.lower) P (view c.put_own.new.self) v (λ r e. inl (e ∙ lower)) c.take_lower.ensures.only) in
     locks_only_then P u v w c.take_upper.ensures.locked.number first
     (locks_only_weaker (λ r. r ≡ (stack_of c.take_lower.new.pass).own.upper) P v w (λ r e. inr (e ∙ upper)) c.take_upper.ensures.only)
+
+pub returns-clause-finds : goal.returns-clause-finds
+returns-clause-finds c =
+    let u = view c.args.pass.now in
+    let v = view c.take_lower.new.pass in
+    let w = view c.take_upper.new.pass in
+    let first : FindsSame u v = subst (λ (z : View). FindsSame z v) c.put_own.ensures.view.1 c.in_ok-take_lower.ensures.finds in
+    let shapes : u.shape ≡ v.shape = c.requires.inside.0.1 ∙ sym c.take_lower.ensures.inside.0.1 in
+    on_ok_weaker c.take_upper.result
+    (λ (second : FindsSame v w) floor.
+    let f = first floor in
+    let s = second f.0 in
+    (s.0, λ o low. s.1 o (subst (λ (k : Shape). o < container_count k) shapes low) ∙ f.1 o low, s.2 ∙ f.2))
+    c.take_upper.ensures.finds

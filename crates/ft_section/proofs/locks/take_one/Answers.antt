@@ -8,7 +8,7 @@ use Rattle.ft_trace.specs.declared.Shape.{Shape}
 use Rattle.ft_trace.specs.declared.View.{View}
 use Rattle.ft_trace.specs.Acts.{has_lock, view_after}
 use Rattle.ft_trace.specs.Addresses.{container_count}
-use Rattle.ft_trace.specs.Holds.{held_words, known_state}
+use Rattle.ft_trace.specs.Holds.{held_unboxed, known_state}
 use Rattle.ft_trace.specs.Pictures.{Represents}
 use Rattle.std.specs.Prelude.{suc}
 use Rattle.ft_trace.specs.Traces.{IsReachable}
@@ -26,7 +26,7 @@ returns-in-Ok-clause-took c =
     let shape = c.requires.inside.0.1 in
     let low = subst (λ (k : Shape). o < container_count k) (sym shape) c.requires.container in
     let keeps = subst (KeepsOthers o v) d.1.1 c.in-Ok.ensures.keeps in
-    let stands = subst (λ (k : Shape). Represents k.texts (held_words o w) (known_state o w)) (sym shape) (subst (λ (z : View). Represents (shape_of c.args.bank.now).texts (held_words o z) (known_state o z)) d.1.1 c.in-Ok.ensures.stands) in
+    let stands = subst (λ (k : Shape). Represents k.texts (held_unboxed o w) (known_state o w)) (sym shape) (subst (λ (z : View). Represents (shape_of c.args.bank.now).texts (held_unboxed o z) (known_state o z)) d.1.1 c.in-Ok.ensures.stands) in
     subst (TookLocks (at_one o) v) (sym d.1.1) (took_lock v o d.0 free low keeps stands)
 
 pub returns-in-Err-clause-none : goal.returns-in-Err-clause-none

@@ -11,7 +11,7 @@ use Rattle.ft_layout.specs.declared.slot.Stored.TheVariants.{Empty}
 use Rattle.ft_keys.specs.declared.walk.Way.TheVariants as way
 use Rattle.ft_trace.specs.declared.Shape.{Shape}
 use Rattle.ft_trace.specs.Addresses.{container_count}
-use Rattle.ft_trace.specs.Holds.{held_words, known_state}
+use Rattle.ft_trace.specs.Holds.{held_unboxed, known_state}
 use Rattle.ft_bank.specs.declared.table.Table.{Table}
 use Rattle.ft_bank.specs.Passes.{shape_of, view}
 use Rattle.ft_bank.specs.Whole.{Wrote}
@@ -58,7 +58,7 @@ returns-in-At-clause-added c =
     let n = c.write_nothing-number.ensures in
     let h = subst (λ (z : Content). IsHeldAt z a.key (Some (c.in-At.field-2, c.in-At.field-3))) p.1 c.in-At.ensures.spot.2 in
     let there : holds (known_state a.s u).content a.key ≡ true = ap (λ (z : Content). holds z a.key) p.1 ∙ leaving.has_there a.s u p.0 p.2 c.seek_key.ensures.may.locked p.1 a.key c.seek_key.ensures.key _ _ h n.wrote.found n.wrote.has in
-    puts_present (shape_of a.bank.now) a.s a.key (call.Set a.s (set.Add a.key)) reply.Done (view a.pass.now) u (view c.write_nothing-number.new.pass) c.seek_key.ensures.keeps c.written.result (leaves at).changed there (ap (λ (z : Stamp). z.wrote) c.written.ensures) (subst (λ (z : Stamp). Wrote (call.Set a.s (set.Add a.key)) reply.Done z.number u (view c.write_nothing-number.new.pass)) (sym c.written.ensures) n.wrote) n.root
+    puts_present (shape_of a.bank.now) a.s a.key (call.Set a.s (set.Add a.key)) reply.Done (view a.pass.now) u (view c.write_nothing-number.new.pass) c.seek_key.ensures.keeps c.written.result (leaves at).changed there (ap (λ (z : Stamp). z.wrote) c.written.ensures) (subst (λ (z : Stamp). Wrote (call.Set a.s (set.Add a.key)) reply.Done z.number u (view c.write_nothing-number.new.pass)) (sym c.written.ensures) n.wrote) n.root n.references
 
 -- ---- a table that has the key nowhere
 
@@ -71,7 +71,7 @@ add_key-requires-clause-may c =
 pub add_key-requires-clause-slot : goal.add_key-requires-clause-slot
 add_key-requires-clause-slot c t is =
     let a = c.args in
-    subst (λ (z : Table). IsFreeFor (shape_of a.bank.now).texts way.Set z.class a.key (held_words a.s (view c.seek_key.new.pass)).table c.in-Free.slot) (ap (λ (z : Option Table). unwrap_or z c.in-Free.table) is) (c.in-Free.ensures.spot.1, c.in-Free.ensures.spot.2)
+    subst (λ (z : Table). IsFreeFor (shape_of a.bank.now).texts way.Set z.class a.key (held_unboxed a.s (view c.seek_key.new.pass)).table c.in-Free.slot) (ap (λ (z : Option Table). unwrap_or z c.in-Free.table) is) (c.in-Free.ensures.spot.1, c.in-Free.ensures.spot.2)
 
 pub add_key-requires-clause-absent : goal.add_key-requires-clause-absent
 add_key-requires-clause-absent c = c.in-Free.ensures.spot.3

@@ -19,7 +19,7 @@ pub returns-in-At-clause-made : goal.returns-in-At-clause-made
 returns-in-At-clause-made c =
     let e = c.seek_key.ensures in
     let n = c.delete_entry-number.ensures in
-    written_made c.args.s (record { content = without_key (known_state c.args.s (view c.seek_key.new.pass)).content c.args.key; table = (known_state c.args.s (view c.seek_key.new.pass)).table }) (call.Set c.args.s (set.Discard c.args.key)) reply.Done c.delete_entry-number.result c.written.result (view c.args.pass.now) (view c.seek_key.new.pass) (view c.delete_entry-number.new.pass) e.loads.0 e.keeps e.loads.1 (leaves (goal.at.returns-in-At-clause-made c).In-At) n.wrote n.root c.written.ensures
+    written_made c.args.s (record { content = without_key (known_state c.args.s (view c.seek_key.new.pass)).content c.args.key; table = (known_state c.args.s (view c.seek_key.new.pass)).table }) (call.Set c.args.s (set.Discard c.args.key)) reply.Done c.delete_entry-number.result c.written.result (view c.args.pass.now) (view c.seek_key.new.pass) (view c.delete_entry-number.new.pass) e.loads.0 e.keeps e.loads.1 (leaves (goal.at.returns-in-At-clause-made c).In-At) n.wrote n.root n.references c.written.ensures
 
 pub returns-in-Free-clause-made : goal.returns-in-Free-clause-made
 returns-in-Free-clause-made c =

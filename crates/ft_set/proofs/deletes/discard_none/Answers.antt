@@ -21,4 +21,4 @@ write_nothing-number-requires-clause-leaves c = leaves (goal.at.write_nothing-nu
 pub returns-clause-made : goal.returns-clause-made
 returns-clause-made c =
     let n = c.write_nothing-number.ensures in
-    written_made c.args.s (known_state c.args.s (view c.args.pass.now)) (call.Set c.args.s (set.Discard c.args.key)) reply.Done c.write_nothing-number.result c.written.result (view c.args.pass.now) (view c.args.pass.now) (view c.write_nothing-number.new.pass) [] (loaded_same (view c.args.pass.now)) refl (leaves (goal.at.returns-clause-made c).Start) n.wrote n.root c.written.ensures
+    written_made c.args.s (known_state c.args.s (view c.args.pass.now)) (call.Set c.args.s (set.Discard c.args.key)) reply.Done c.write_nothing-number.result c.written.result (view c.args.pass.now) (view c.args.pass.now) (view c.write_nothing-number.new.pass) [] (loaded_same (view c.args.pass.now)) refl (leaves (goal.at.returns-clause-made c).Start) n.wrote n.root n.references c.written.ensures

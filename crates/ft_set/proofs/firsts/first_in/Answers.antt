@@ -1,4 +1,5 @@
 use Rattle.std.proofs.Common.{ℕ, Option, None, Some, sym, subst}
+use Rattle.ft_trace.specs.Kinds.{IsKeyed}
 use Rattle.ft_bank.specs.Passes.{shape_of}
 use Rattle.ft_bank.specs.TableNames.{table_id}
 use Rattle.ft_reads.specs.Reads.{Reads}
@@ -9,6 +10,12 @@ use Rattle.ft_set.specs.declared.firsts.First.{First}
 use Rattle.ft_set.specs.Firsts.{IsFirstIn}
 use Rattle.ft_set.proofs.Popping.{first_found, first_none}
 use Rattle.ft_set.proofs.firsts.first_in.Goals as goal
+
+pub first_place-requires-clause-keyed : goal.first_place-requires-clause-keyed
+first_place-requires-clause-keyed c = subst IsKeyed (sym c.requires.set) tt
+
+pub key_at-found-requires-clause-keyed : goal.key_at-found-requires-clause-keyed
+key_at-found-requires-clause-keyed c = subst IsKeyed (sym c.requires.set) tt
 
 pub returns-in-Some-clause-reads : goal.returns-in-Some-clause-reads
 returns-in-Some-clause-reads c =

@@ -21,4 +21,4 @@ pub returns-clause-made : goal.returns-clause-made
 returns-clause-made c =
     let n = c.thin_by-number.ensures in
     let v = view c.args.pass.now in
-    written_made c.args.s (thinned_state false (known_state c.args.t v) (known_state c.args.s v)) (call.Set c.args.s (set.Sub c.args.t)) reply.Done c.thin_by-number.result c.written.result v v (view c.thin_by-number.new.pass) [] (loaded_same v) refl (leaves (goal.at.returns-clause-made c).Start) n.wrote n.root c.written.ensures
+    written_made c.args.s (thinned_state false (known_state c.args.t v) (known_state c.args.s v)) (call.Set c.args.s (set.Sub c.args.t)) reply.Done c.thin_by-number.result c.written.result v v (view c.thin_by-number.new.pass) [] (loaded_same v) refl (leaves (goal.at.returns-clause-made c).Start) n.wrote n.root n.references c.written.ensures

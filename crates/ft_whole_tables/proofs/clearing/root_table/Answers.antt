@@ -10,11 +10,14 @@ use Rattle.ft_search.proofs.Spotting.{may_loaded}
 use Rattle.ft_whole_tables.proofs.Emptied.{root_named}
 use Rattle.ft_whole_tables.proofs.clearing.root_table.Goals as goal
 
+pub returns-clause-only : goal.returns-clause-only
+returns-clause-only c = loaded_by (ReadBlock c.args.o 0 c.read_block-root.result) (view c.args.pass.now) (view c.read_block-root.new.pass) tt c.read_block-root.ensures.did.1
+
 pub returns-clause-may : goal.returns-clause-may
 returns-clause-may c =
     let a = c.args in
     let e = c.read_block-root.ensures in
-    may_loaded (shape_of a.bank.now) a.o (view a.pass.now) (view c.read_block-root.new.pass) (loaded_by (ReadBlock a.o 0 c.read_block-root.result) (view a.pass.now) (view c.read_block-root.new.pass) tt e.did.1) c.requires.may
+    may_loaded (shape_of a.bank.now) a.o (view a.pass.now) (view c.read_block-root.new.pass) c.requires.pass.1 (loaded_by (ReadBlock a.o 0 c.read_block-root.result) (view a.pass.now) (view c.read_block-root.new.pass) tt e.did.1) c.requires.may
 
 pub returns-clause-root : goal.returns-clause-root
 returns-clause-root c =

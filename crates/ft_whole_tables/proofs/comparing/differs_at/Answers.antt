@@ -1,15 +1,22 @@
-use Rattle.std.proofs.Common.{◌<◌, not, Option, Some, ap, subst}
+use Rattle.std.proofs.Common.{◌<◌, not, Option, Some, sym, ap, subst}
 use Rattle.std.specs.Prelude.{IfSome}
 use Rattle.ft_model.specs.declared.data.Key.{Key}
 use Rattle.ft_model.specs.declared.data.Value.{Value}
 use Rattle.ft_layout.specs.Words.{FitsKey}
 use Rattle.ft_trace.specs.Addresses.{class_of, places}
+use Rattle.ft_trace.specs.Kinds.{IsKeyed}
 use Rattle.ft_bank.specs.Passes.{shape_of}
 use Rattle.ft_bank.specs.TableNames.{table_id}
 use Rattle.ft_reads.specs.Reads.{Reads}
 use Rattle.ft_whole_tables.specs.TableEntries.{IsPlainAt}
 use Rattle.ft_whole_tables.proofs.Meeting.{differs_none, differs_some}
 use Rattle.ft_whole_tables.proofs.comparing.differs_at.Goals as goal
+
+pub hash_at-hash-requires-clause-keyed : goal.hash_at-hash-requires-clause-keyed
+hash_at-hash-requires-clause-keyed c = subst IsKeyed (sym c.requires.kind) tt
+
+pub find_value-found-requires-clause-key : goal.find_value-found-requires-clause-key
+find_value-found-requires-clause-key c = (subst (λ f. IfSome f (λ pair. (c.args.place < places (class_of (table_id c.args.table))) × FitsKey pair.0)) c.in-Some.is c.value_at.ensures.within).1
 
 pub hash_at-hash-requires-clause-place : goal.hash_at-hash-requires-clause-place
 hash_at-hash-requires-clause-place c = (subst (λ f. IfSome f (λ pair. (c.args.place < places (class_of (table_id c.args.table))) × FitsKey pair.0)) c.in-Some.is c.value_at.ensures.within).0

@@ -1,14 +1,24 @@
-use Rattle.std.proofs.Common.{◌<◌, Option, Some, ◌∙◌, subst, not}
+use Rattle.std.proofs.Common.{◌<◌, Option, Some, sym, ◌∙◌, subst, not}
 use Rattle.std.specs.Prelude.{IfSome, is_some, if◌then◌else◌}
 use Rattle.ft_model.specs.declared.data.Key.{Key}
 use Rattle.ft_layout.specs.Words.{FitsKey}
 use Rattle.ft_trace.specs.Addresses.{class_of, places}
+use Rattle.ft_trace.specs.Kinds.{IsKeyed}
 use Rattle.ft_bank.specs.Passes.{shape_of}
 use Rattle.ft_bank.specs.TableNames.{table_id}
 use Rattle.ft_reads.specs.Reads.{Reads}
 use Rattle.ft_whole_tables.specs.TableEntries.{IsKeyAt}
 use Rattle.ft_whole_tables.proofs.Meeting.{met_none, met_some}
 use Rattle.ft_whole_tables.proofs.comparing.meets_at.Goals as goal
+
+pub key_at-requires-clause-keyed : goal.key_at-requires-clause-keyed
+key_at-requires-clause-keyed c = subst IsKeyed (sym c.requires.kind) tt
+
+pub hash_at-hash-requires-clause-keyed : goal.hash_at-hash-requires-clause-keyed
+hash_at-hash-requires-clause-keyed c = subst IsKeyed (sym c.requires.kind) tt
+
+pub find_key-found-requires-clause-key : goal.find_key-found-requires-clause-key
+find_key-found-requires-clause-key c = (subst (λ f. IfSome f (λ key. (c.args.place < places (class_of (table_id c.args.table))) × FitsKey key)) c.in-Some.is c.key_at.ensures.within).1
 
 pub hash_at-hash-requires-clause-place : goal.hash_at-hash-requires-clause-place
 hash_at-hash-requires-clause-place c = (subst (λ f. IfSome f (λ key. (c.args.place < places (class_of (table_id c.args.table))) × FitsKey key)) c.in-Some.is c.key_at.ensures.within).0

@@ -24,12 +24,12 @@ shown c =
     let v = view a.pass.now in
     let is_so = c.holds_between-is_so.result in
     let q = c.holds_between-is_so.new.pass in
-    let shows = both_show k a.c a.other (IsComparedAs k a.how is_so) a.pass.now q c.holds_between-is_so.ensures.reads c.requires.may c.requires.other in
+    let shows = both_show k a.c a.other (IsComparedAs k a.how is_so) a.pass.now q c.requires.pass.1 c.holds_between-is_so.ensures.reads c.requires.may c.requires.other in
     shown_then (compared a.how a.c a.other) (reply.Truth is_so) v (view q) (loaded c)
     (compared_shown k a.how a.c a.other v c.requires.pass.1 a.pass.now.possible c.requires.may c.requires.other c.requires.kind c.requires.other_kind is_so shows)
 
 pub answer_made-requires-clause-left : goal.answer_made-requires-clause-left
-answer_made-requires-clause-left c = (may_loaded (shape_of c.args.bank.now) c.args.c (view c.args.pass.now) (view c.holds_between-is_so.new.pass) (loaded (goal.at.answer_made-requires-clause-left c).After-holds_between-is_so) c.requires.may).left
+answer_made-requires-clause-left c = (may_loaded (shape_of c.args.bank.now) c.args.c (view c.args.pass.now) (view c.holds_between-is_so.new.pass) c.requires.pass.1 (loaded (goal.at.answer_made-requires-clause-left c).After-holds_between-is_so) c.requires.may).left
 
 pub answer_made-requires-clause-shown : goal.answer_made-requires-clause-shown
 answer_made-requires-clause-shown c =

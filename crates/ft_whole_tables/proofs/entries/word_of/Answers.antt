@@ -1,70 +1,29 @@
-use Rattle.std.proofs.Common.{◌≡◌, ℕ, ◌<◌, ◌+◌, ◌*◌, suc, sym, subst, arith}
+use Rattle.std.proofs.Common.{◌≡◌, ℕ, suc, sym, subst}
 use Rattle.std.specs.Prelude.{slice_index}
-use Rattle.ft_model.specs.declared.script.Kind.TheVariants as kind
-use Rattle.ft_trace.specs.Addresses.{class_of, size, slots}
-use Rattle.ft_trace.specs.Pictures.{entry_offset, root_in}
-use Rattle.ft_trace.proofs.ByKind.{keyed_low}
+use Rattle.ft_trace.specs.Addresses.{class_of}
+use Rattle.ft_trace.specs.ContainerStates.{kind_in}
+use Rattle.ft_trace.specs.Pictures.{root_in}
+use Rattle.ft_trace.specs.WholeWrites.{IsNoValue}
+use Rattle.ft_trace.proofs.ValuePlaces.{keyed_far}
 use Rattle.ft_bank.specs.Passes.{shape_of}
 use Rattle.ft_bank.specs.TableNames.{table_id}
 use Rattle.ft_bank.proofs.TableAddresses.{named}
-use Rattle.ft_search.proofs.Puts.{few_mask, few_places}
 use Rattle.ft_reads.specs.Reads.{Reads}
 use Rattle.ft_reads.proofs.Agreeing.{reads_table}
-use Rattle.ft_search.proofs.WordPlaces.{entry_is}
 use Rattle.ft_whole_tables.proofs.entries.word_of.Goals as goal
-use Rattle.ft_whole_tables.proofs.entries.word_of.Goals.{Start, After-mask_of}
-
-few : (c : Start) → c.args.place < 65536
-few c = few_places (shape_of c.args.bank.now) c.args.table kind.Dict c.args.place c.requires.table tt c.requires.place
-
-few_after : (c : After-mask_of) → c.args.place < 65536
-few_after c = few_places (shape_of c.args.bank.now) c.args.table kind.Dict c.args.place c.requires.table tt c.requires.place
-
-small : (c : After-mask_of) → c.mask_of.result < 65536
-small c = subst (λ (n : ℕ). n < 65536) (sym c.mask_of.ensures) (few_mask (shape_of c.args.bank.now) c.args.table c.requires.table)
-
-lies : (c : After-mask_of) → 8 * c.args.place + c.args.word + c.mask_of.result + 1 ≡ entry_offset (slots (class_of (table_id c.args.table))) c.args.place c.args.word
-lies c = entry_is (shape_of c.args.bank.now) c.args.table c.mask_of.result c.args.place c.args.word c.requires.table c.mask_of.ensures
-
-inside : (c : After-mask_of) → 8 * c.args.place + c.args.word + c.mask_of.result + 1 < size (class_of (table_id c.args.table))
-inside c = subst (λ (i : ℕ). i < size (class_of (table_id c.args.table))) (sym (lies c)) (keyed_low kind.Dict tt (class_of (table_id c.args.table)) c.args.place c.args.word c.requires.place c.requires.word)
-
-pub overflow_mul-at : goal.overflow_mul-at
-overflow_mul-at c = let f = few (goal.at.overflow_mul-at c).Start in omega (arith, f)
-
-pub overflow_add-at : goal.overflow_add-at
-overflow_add-at c =
-    let f = few (goal.at.overflow_add-at c).Start in
-    let w = c.requires.word in
-    omega (arith, f, w)
-
-pub overflow_add-at-2 : goal.overflow_add-at-2
-overflow_add-at-2 c =
-    let d = (goal.at.overflow_add-at-2 c).After-mask_of in
-    let f = few_after d in
-    let s = small d in
-    let w = c.requires.word in
-    omega (arith, f, w, s)
-
-pub overflow_add-at-3 : goal.overflow_add-at-3
-overflow_add-at-3 c =
-    let d = (goal.at.overflow_add-at-3 c).After-mask_of in
-    let f = few_after d in
-    let s = small d in
-    let w = c.requires.word in
-    omega (arith, f, w, s)
-
-pub read_table-requires-clause-word : goal.read_table-requires-clause-word
-read_table-requires-clause-word c = inside (goal.at.read_table-requires-clause-word c).After-mask_of
 
 pub returns-clause-reads : goal.returns-clause-reads
 returns-clause-reads c =
     let a = c.args in
-    let d = (goal.at.returns-clause-reads c).After-mask_of in
     let k = shape_of a.bank.now in
     let t = table_id a.table in
+    let kd = kind_in k.starts a.o in
+    let at = c.entry_at-at.result in
+    let e = c.entry_at-at.ensures in
     let f = c.read_table.result in
     let p = a.pass.now in
     let q = c.read_table.new.pass in
-    subst (λ (i : ℕ). Reads k a.o (λ x. root_in x ≡ suc t → f ≡ slice_index x.table i) p q) (lies d)
-    (reads_table k a.o t (8 * a.place + a.word + c.mask_of.result + 1) f p q (named k a.table c.requires.table) (inside d) c.read_table.ensures.did c.read_table.ensures.held)
+    let w = c.requires.word in
+    let far = subst (λ (i : ℕ). IsNoValue kd (class_of t) i) (sym e.at) (keyed_far kd c.requires.keyed (class_of t) a.place a.word w.0 w.1 w.2) in
+    subst (λ (i : ℕ). Reads k a.o (λ x. root_in x ≡ suc t → f ≡ slice_index x.table i) p q) e.at
+    (reads_table k a.o t at f p q (named k a.table c.requires.table) e.inside far c.read_table.ensures.did c.read_table.ensures.held)

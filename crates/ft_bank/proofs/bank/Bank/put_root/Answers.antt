@@ -5,15 +5,16 @@ use Rattle.ft_trace.specs.declared.Act.TheVariants.{PutRoot}
 use Rattle.ft_trace.specs.Addresses.{container_count}
 use Rattle.ft_trace.specs.Acts.{view_after}
 use Rattle.ft_trace.specs.Pictures.{root_in}
-use Rattle.ft_trace.specs.Holds.{held_words}
+use Rattle.ft_trace.specs.Holds.{held_words, held_unboxed}
 use Rattle.ft_trace.specs.Traces.{Ready}
 use Rattle.ft_bank.specs.Passes.{view, shape_of}
 use Rattle.ft_bank.specs.Rules.{Acted}
-use Rattle.ft_bank.specs.WriteSteps.{KeepsUnwritten, with_root}
+use Rattle.ft_bank.specs.WriteSteps.{KeepsUnwritten, with_root, with_unboxed_root}
 use Rattle.ft_bank.proofs.KnownAfterSteps.{keeps_unwritten}
-use Rattle.ft_bank.proofs.WordsPut.{root_put}
+use Rattle.ft_bank.proofs.WordsPut.{root_put, root_unboxed, root_moves}
 use Rattle.ft_bank.proofs.Readying.{root_ready}
 use Rattle.ft_bank.proofs.TableAddresses.{each_named}
+use Rattle.ft_bank.specs.SameBoxes.{MovesReferences}
 use Rattle.ft_bank.proofs.bank.Bank.put_root.Goals as goal
 
 pub store_as-requires-clause-ready : goal.store_as-requires-clause-ready
@@ -40,3 +41,25 @@ returns-clause-held c =
 
 pub root_value-value-requires : goal.root_value-value-requires
 root_value-value-requires c t e = let is = c.requires.table t e in (is.0, is.2)
+
+pub returns-clause-unboxed : goal.returns-clause-unboxed
+returns-clause-unboxed c =
+    let v = view c.args.pass.now in
+    let o = c.args.o in
+    let old = root_in (held_words o v) in
+    let low : o < container_count v.shape = subst (λ (z : Shape). o < container_count z) (sym c.requires.pass.1) c.requires.container in
+    let tables = each_named (shape_of c.args.self.now) v.shape c.args.root c.requires.pass.1 c.requires.table in
+    let acted = subst (λ (z : ℕ). Acted v (PutRoot o z old)) c.root_value-value.ensures c.store_as.ensures.acted in
+    let is = c.store_as.ensures.did.1 ∙ ap (λ (z : ℕ). view_after (PutRoot o z old) v) c.root_value-value.ensures in
+    subst (λ (w : View). held_unboxed o w ≡ with_unboxed_root (held_unboxed o v) o c.args.root v) (sym is) (root_unboxed v o c.args.root old low tables c.requires.may.odd acted)
+
+pub returns-clause-moves : goal.returns-clause-moves
+returns-clause-moves c =
+    let v = view c.args.pass.now in
+    let o = c.args.o in
+    let old = root_in (held_words o v) in
+    let low : o < container_count v.shape = subst (λ (z : Shape). o < container_count z) (sym c.requires.pass.1) c.requires.container in
+    let tables = each_named (shape_of c.args.self.now) v.shape c.args.root c.requires.pass.1 c.requires.table in
+    let acted = subst (λ (z : ℕ). Acted v (PutRoot o z old)) c.root_value-value.ensures c.store_as.ensures.acted in
+    let is = c.store_as.ensures.did.1 ∙ ap (λ (z : ℕ). view_after (PutRoot o z old) v) c.root_value-value.ensures in
+    subst (MovesReferences o v) (sym is) (root_moves v o _ old acted.2.1.3.8)

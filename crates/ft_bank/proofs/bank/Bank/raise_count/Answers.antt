@@ -1,8 +1,15 @@
 use Rattle.std.proofs.Common.{ℕ, ◌<◌, sym, subst}
 use Rattle.ft_trace.specs.Addresses.{count_of_class, extent}
 use Rattle.ft_trace.proofs.Addresses.{at_low}
-use Rattle.ft_bank.specs.Passes.{shape_of}
+use Rattle.ft_bank.specs.Passes.{shape_of, view}
+use Rattle.ft_bank.specs.Takings.{KeepsBut, Each}
+use Rattle.ft_bank.proofs.Freeing.{raise_keeps}
 use Rattle.ft_bank.proofs.bank.Bank.raise_count.Goals as goal
 
 pub add_as-requires-clause-word : goal.add_as-requires-clause-word
 add_as-requires-clause-word c = subst (λ (w : ℕ). w < extent (shape_of c.args.self.now)) (sym c.free_count_word-word.ensures) (at_low (shape_of c.args.self.now) (count_of_class c.args.class) c.requires.class)
+
+pub returns-clause-keeps : goal.returns-clause-keeps
+returns-clause-keeps c =
+    let v = view c.args.pass.now in
+    subst (KeepsBut Each v) (sym c.add_as.ensures.did.1) (raise_keeps v _ _ c.add_as.ensures.acted)

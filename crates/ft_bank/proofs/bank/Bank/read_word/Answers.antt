@@ -1,4 +1,4 @@
-use Rattle.std.proofs.Common.{ℕ, ◌+◌, ◌<◌, sym, subst}
+use Rattle.std.proofs.Common.{ℕ, ◌+◌, ◌<◌, sym, subst, inl, inr}
 use Rattle.ft_trace.specs.declared.Shape.{Shape}
 use Rattle.ft_trace.specs.declared.Act.TheVariants.{ReadTable}
 use Rattle.ft_trace.specs.Addresses.{container_count, IsTableName}
@@ -6,7 +6,7 @@ use Rattle.ft_trace.specs.Traces.{Ready}
 use Rattle.ft_bank.specs.Passes.{view, shape_of}
 use Rattle.ft_bank.specs.Rules.{Acted}
 use Rattle.ft_bank.specs.TableNames.{table_id}
-use Rattle.ft_bank.proofs.KnownAfterSteps.{table_found, fresh_found}
+use Rattle.ft_bank.proofs.KnownAfterSteps.{table_found, hand_found}
 use Rattle.ft_bank.proofs.Readying.{read_ready}
 use Rattle.ft_bank.proofs.TableAddresses.{named}
 use Rattle.ft_bank.proofs.bank.Bank.read_word.Goals as goal
@@ -27,4 +27,10 @@ pub returns-clause-fresh : goal.returns-clause-fresh
 returns-clause-fresh c mine =
     let v = view c.args.pass.now in
     let table : IsTableName v.shape (table_id c.args.t) = subst (λ (z : Shape). IsTableName z (table_id c.args.t)) (sym c.requires.pass.1) (named (shape_of c.args.self.now) c.args.t c.requires.table) in
-    fresh_found v (table_id c.args.t) c.args.word c.load_as.result table c.requires.word mine (subst (λ (z : ℕ). Acted v (ReadTable z c.args.word c.load_as.result)) c.name.ensures c.load_as.ensures.acted)
+    hand_found v (table_id c.args.t) c.args.word c.load_as.result table c.requires.word (inl mine) (subst (λ (z : ℕ). Acted v (ReadTable z c.args.word c.load_as.result)) c.name.ensures c.load_as.ensures.acted)
+
+pub returns-clause-taken : goal.returns-clause-taken
+returns-clause-taken c mine =
+    let v = view c.args.pass.now in
+    let table : IsTableName v.shape (table_id c.args.t) = subst (λ (z : Shape). IsTableName z (table_id c.args.t)) (sym c.requires.pass.1) (named (shape_of c.args.self.now) c.args.t c.requires.table) in
+    hand_found v (table_id c.args.t) c.args.word c.load_as.result table c.requires.word (inr mine) (subst (λ (z : ℕ). Acted v (ReadTable z c.args.word c.load_as.result)) c.name.ensures c.load_as.ensures.acted)

@@ -5,9 +5,11 @@ use Rattle.ft_trace.specs.declared.View.{View}
 use Rattle.ft_trace.specs.Acts.{view_after}
 use Rattle.ft_bank.specs.Passes.{view}
 use Rattle.ft_bank.specs.Series.{noted_all}
-use Rattle.ft_bank.specs.Takings.{lowered, loads_of_none}
-use Rattle.ft_bank.proofs.Freeing.{all_then}
+use Rattle.ft_bank.specs.Takings.{lowered, loads_of_none, Each, StaysIn, StaysInSearch}
+use Rattle.ft_bank.proofs.Freeing.{all_then, but_same, but_then}
 use Rattle.ft_bank.proofs.Undisturbed.{taking_alone}
+use Rattle.ft_bank.specs.declared.takings.Search.TheVariants as search
+use Rattle.ft_bank.specs.declared.takings.Took.TheVariants as took
 use Rattle.ft_bank.proofs.bank.Bank.take_table.Goals as goal
 
 -- the two first steps, where the count was lowered
@@ -91,3 +93,16 @@ pub returns-in-Nothing-clause-floor : goal.returns-in-Nothing-clause-floor
 returns-in-Nothing-clause-floor c has =
     let d = returns-in-Nothing-clause-did c in
     taking_alone (view c.args.pass.now) (view c.raise_count-in-Nothing.new.pass) c.args.class c.read_count-count.result 0 d.0 c.requires.class d.1.1 d.2 c.raise_count-in-Nothing.new.pass.possible has
+
+pub returns-in-Lost-clause-keeps : goal.returns-in-Lost-clause-keeps
+returns-in-Lost-clause-keeps c =
+    let v = view c.args.pass.now in
+    let one = view c.read_count-count.new.pass in
+    let two = view c.lower_count-found.new.pass in
+    let three = view c.search.new.pass in
+    let four = view c.raise_count.new.pass in
+    let F : ℕ → Type 0 = StaysIn (took.Moved c.in-Lost.loaded c.in-Lost.found) in
+    let G : ℕ → Type 0 = StaysInSearch (search.Lost c.in-Lost.loaded c.in-Lost.found) in
+    let found = but_then Each G one two three c.lower_count-found.ensures.keeps c.in-Lost.ensures.keeps (λ t x. x) in
+    let all = but_then Each Each v one four c.read_count-count.ensures.keeps (but_then Each Each one three four found c.raise_count.ensures.keeps (λ t x. x)) (λ t x. x) in
+    but_then F Each v v four (but_same F v) all (λ t x. x)

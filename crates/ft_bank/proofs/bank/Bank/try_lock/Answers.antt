@@ -8,7 +8,7 @@ use Rattle.ft_trace.specs.Addresses.{container_count}
 use Rattle.ft_trace.specs.Pictures.{Represents}
 use Rattle.ft_trace.specs.declared.Snap.{Snap}
 use Rattle.ft_trace.specs.Acts.{view_after}
-use Rattle.ft_trace.specs.Holds.{held_words, known_state}
+use Rattle.ft_trace.specs.Holds.{held_unboxed, known_state}
 use Rattle.ft_bank.specs.Passes.{view, shape_of}
 use Rattle.ft_bank.specs.Rules.{Acted}
 use Rattle.ft_bank.specs.Locks.{KeepsOthers}
@@ -90,8 +90,8 @@ returns-clause-stands c =
     let z = d.0 in
     let acted : Acted v (Lock o 0 z) = subst (λ (f : ℕ). Acted v (Lock o f z)) c.if-found-ne0.false (same_view v _ o c.lock_as-found.result z e.1 d.2) in
     let is : view c.lock_as-found.new.pass ≡ view_after (Lock o 0 z) v = d.1.1 ∙ (ap (view_after (Lock o c.lock_as-found.result z)) e.1 ∙ ap (λ (f : ℕ). view_after (Lock o f z) v) c.if-found-ne0.false) in
-    subst (λ (k : Shape). Represents k.texts (held_words o (view c.lock_as-found.new.pass)) (known_state o (view c.lock_as-found.new.pass))) c.requires.pass.1
-    (subst (λ (w : View). Represents v.shape.texts (held_words o w) (known_state o w)) (sym is) (lock_stands v o z low c.requires.free acted))
+    subst (λ (k : Shape). Represents k.texts (held_unboxed o (view c.lock_as-found.new.pass)) (known_state o (view c.lock_as-found.new.pass))) c.requires.pass.1
+    (subst (λ (w : View). Represents v.shape.texts (held_unboxed o w) (known_state o w)) (sym is) (lock_stands v o z low c.requires.free acted))
 
 pub returns-clause-keeps : goal.returns-clause-keeps
 returns-clause-keeps c =

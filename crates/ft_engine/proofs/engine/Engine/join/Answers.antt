@@ -1,10 +1,16 @@
 use Rattle.std.proofs.Common.{◌-◌, ◌++◌, ap, refl, arith}
 use Rattle.ft_trace.specs.declared.View.{View}
 use Rattle.ft_bank.specs.Passes.{view}
+use Rattle.ft_engine.proofs.Callers.{joined_caller}
 use Rattle.ft_engine.proofs.KeptLists.{joined_in, joined_state}
 use Rattle.ft_engine.proofs.Presences.{joined_online}
 use Rattle.ft_engine.proofs.SoFar.{all_answers_right}
 use Rattle.ft_engine.proofs.engine.Engine.join.Goals as goal
+
+pub returns-clause-caller : goal.returns-clause-caller
+returns-clause-caller c =
+    let x = c.join.ensures.view in
+    joined_caller c.args.self.now c.args.caller.now c.join.new.pass (view c.args.other.pass) x.0 c.requires.caller c.requires.idle c.join.ensures.pass c.join.ensures.sections x.1
 
 pub returns-clause-thread : goal.returns-clause-thread
 returns-clause-thread c = ap (λ (v : View). v.number - 1) c.join.ensures.view.1

@@ -1,9 +1,100 @@
-use Rattle.ft_bank.specs.Passes.{shape_of}
+use Rattle.std.proofs.Common.{◌≡◌, true, List, ℕ, ◌+◌, ◌*◌, ◌^◌, ◌<◌, ◌∷◌, refl, sym, ap, ◌∙◌, subst, arith}
+use Rattle.ft_trace.specs.declared.Act.TheVariants.{ReadTable}
+use Rattle.ft_trace.specs.declared.Shape.{Shape}
+use Rattle.ft_trace.specs.declared.View.{View}
+use Rattle.ft_trace.specs.Acts.{has_lock}
+use Rattle.ft_trace.specs.Addresses.{container_count}
+use Rattle.ft_trace.specs.Holds.{held_unboxed, in_hand}
+use Rattle.ft_trace.specs.Pictures.{ContainerWords}
+use Rattle.ft_bank.specs.Passes.{shape_of, view}
+use Rattle.ft_bank.specs.Whole.{OnlyLoaded}
+use Rattle.ft_bank.proofs.KnownAfterWrites.{loaded_by}
+use Rattle.ft_table_calls.proofs.Dropped.{hand_same}
+use Rattle.ft_table_calls.proofs.Rooting.{loaded_filled}
+use Rattle.ft_bank.specs.TableNames.{table_id}
 use Rattle.ft_search.proofs.WordPlaces.{entry_in}
+use Rattle.ft_new_keys.specs.declared.fresh.FreshWords.{FreshWords}
+use Rattle.ft_new_keys.specs.Fresh.{CanFill, old_entries}
+use Rattle.ft_new_keys.proofs.OldValues.{few_words, row_place, row_value, word_stands}
 use Rattle.ft_new_keys.proofs.fresh.FreshWordsTableMove.old_entry.Goals as goal
+
+-- the words of the entry lie inside the table
+inside : (s : FreshWords) (place word : ℕ) → CanFill s → place < old_entries s → word < 8 → (8 * place + s.old_mask + 1 + word < 2 ^ 32)
+inside s place word can low few =
+    let k = shape_of s.bank.now in
+    let there = entry_in k s.old s.old_mask place word can.old_in can.old_mask (row_place k s.o s.old s.old_mask place can.keyed can.old_in can.old_mask low) few in
+    let size = few_words k s.old can.old_in in
+    omega (arith, there, size)
+
+-- loads leave the words
+fresh_same : (s : FreshWords) (v w : View) → OnlyLoaded v w → 0 ∷ 0 ∷ in_hand (table_id s.table) w ≡ 0 ∷ 0 ∷ in_hand (table_id s.table) v
+fresh_same s v w l = ap (λ (z : List ℕ). 0 ∷ 0 ∷ z) (hand_same v w (table_id s.table) l.work.pass.shape l.words)
+
+old_same : (s : FreshWords) (v w : View) → CanFill s → v ≡ view s.pass.now → OnlyLoaded v w → 0 ∷ 0 ∷ (held_unboxed s.o w).table ≡ 0 ∷ 0 ∷ (held_unboxed s.o v).table
+old_same s v w can is l =
+    let shape : v.shape ≡ shape_of s.bank.now = ap (λ (z : View). z.shape) is ∙ can.pass.1 in
+    let locked : has_lock s.o v.log ≡ true = ap (λ (z : View). has_lock s.o z.log) is ∙ can.locked in
+    ap (λ (x : ContainerWords). 0 ∷ 0 ∷ x.table) (l.unboxed s.o (subst (λ (z : Shape). s.o < container_count z) (sym shape) can.container) locked)
+
+pub overflow_mul-at : goal.overflow_mul-at
+overflow_mul-at c = let i = inside c.args.self.now c.args.place c.args.word c.requires.can c.requires.place.0 c.requires.place.1 in omega (arith, i)
+
+pub overflow_add-at : goal.overflow_add-at
+overflow_add-at c = let i = inside c.args.self.now c.args.place c.args.word c.requires.can c.requires.place.0 c.requires.place.1 in omega (arith, i)
+
+pub overflow_add-at-2 : goal.overflow_add-at-2
+overflow_add-at-2 c = let i = inside c.args.self.now c.args.place c.args.word c.requires.can c.requires.place.0 c.requires.place.1 in omega (arith, i)
+
+pub overflow_add-at-then-word-eq-VALUE_KIND : goal.overflow_add-at-then-word-eq-VALUE_KIND
+overflow_add-at-then-word-eq-VALUE_KIND c = let i = inside c.args.self.now c.args.place 4 c.requires.can c.requires.place.0 (omega arith) in omega (arith, i)
+
+pub overflow_add-at-then-word-eq-VALUE : goal.overflow_add-at-then-word-eq-VALUE
+overflow_add-at-then-word-eq-VALUE c = let i = inside c.args.self.now c.args.place 4 c.requires.can c.requires.place.0 (omega arith) in omega (arith, i)
+
+pub overflow_add-at-3 : goal.overflow_add-at-3
+overflow_add-at-3 c = let i = inside c.args.self.now c.args.place c.args.word c.requires.can c.requires.place.0 c.requires.place.1 in omega (arith, i)
+
+pub read_stored-requires-clause-value : goal.read_stored-requires-clause-value
+read_stored-requires-clause-value c =
+    let s = c.args.self.now in
+    let can = c.requires.can in
+    (c.args.place, c.requires.place.0, row_value (shape_of s.bank.now) s.o s.old s.old_mask c.args.place can.keyed can.old_in can.old_mask)
+
+pub read_stored-requires-then-word-eq-VALUE-clause-value : goal.read_stored-requires-then-word-eq-VALUE-clause-value
+read_stored-requires-then-word-eq-VALUE-clause-value c =
+    let s = c.args.self.now in
+    let can = c.requires.can in
+    (c.args.place, c.requires.place.0, row_value (shape_of s.bank.now) s.o s.old s.old_mask c.args.place can.keyed can.old_in can.old_mask)
 
 pub read_table-requires-clause-word : goal.read_table-requires-clause-word
 read_table-requires-clause-word c =
     let s = c.args.self.now in
-    entry_in (shape_of s.bank.now) s.old s.old_mask c.args.place c.args.word c.requires.can.old_in c.requires.can.old_mask
-    c.requires.place.0 c.requires.place.1
+    let can = c.requires.can in
+    let k = shape_of s.bank.now in
+    let there = entry_in k s.old s.old_mask c.args.place c.args.word can.old_in can.old_mask (row_place k s.o s.old s.old_mask c.args.place can.keyed can.old_in can.old_mask c.requires.place.0) c.requires.place.1 in
+    omega (arith, there)
+
+pub returns-clause-gave : goal.returns-clause-gave
+returns-clause-gave c =
+    let s = c.args.self.now in
+    let can = c.requires.can in
+    let k = shape_of s.bank.now in
+    let v = view s.pass.now in
+    let w = view c.read_table.new.pass in
+    let l = loaded_by (ReadTable (table_id s.old) (8 * c.args.place + s.old_mask + 1 + c.args.word) c.read_table.result) v w tt c.read_table.ensures.did.1 in
+    record {
+      bank = refl;
+      pass = refl;
+      stack = c.read_table.ensures.did.2;
+      o = refl;
+      old = refl;
+      old_mask = refl;
+      table = refl;
+      mask = refl;
+      only = loaded_filled v w l;
+      tells = tt;
+      tells_old = c.read_table.ensures.held s.o can.container can.locked can.old_root
+          ∙ word_stands k s.o s.old s.old_mask c.args.place c.args.word v can.pass.1 can.keyed can.old_in can.old_mask can.old_root c.requires.place.1 c.if-word-eq-VALUE_KIND.false c.if-word-eq-VALUE.false;
+      left = fresh_same s v w l;
+      left_old = old_same s v w can refl l;
+    }

@@ -1,7 +1,9 @@
-use Rattle.std.proofs.Common.{ℕ, ◌+◌, ◌*◌, ◌<◌, refl, sym, ◌∙◌, subst}
+use Rattle.std.proofs.Common.{ℕ, ◌+◌, ◌*◌, ◌<◌, ◌∷◌, refl, sym, ap, ◌∙◌, subst}
+use Rattle.ft_trace.specs.declared.Shape.{Shape}
+use Rattle.ft_trace.specs.Pictures.{ContainerWords}
 use Rattle.ft_bank.specs.Passes.{shape_of, view, Did}
 use Rattle.ft_bank.specs.TableNames.{table_id}
-use Rattle.ft_trace.specs.Addresses.{class_of, size}
+use Rattle.ft_trace.specs.Addresses.{class_of, container_count, size}
 use Rattle.ft_trace.specs.Holds.{held_words}
 use Rattle.ft_trace.specs.declared.Act.TheVariants.{ReadTable}
 use Rattle.ft_bank.proofs.KnownAfterWrites.{loaded_by, loaded_put}
@@ -36,5 +38,9 @@ returns-clause-gave c =
       left = λ k.
           loaded_leaves (view s.pass.now) (view c.read_word.new.pass) s.o t
           (8 * c.args.place + c.args.word + s.mask + 1) f c.read_word.ensures.did.1 k;
+      reads = λ k none.
+          let l = loaded_by (ReadTable t (8 * c.args.place + c.args.word + s.mask + 1) f) (view s.pass.now) (view c.read_word.new.pass) tt c.read_word.ensures.did.1 in
+          let same = l.unboxed s.o (subst (λ (z : Shape). s.o < container_count z) (sym c.requires.can.pass.1) c.requires.can.container) k.0 in
+          (ap (λ (x : ContainerWords). 0 ∷ 0 ∷ x.table) same, ap (λ (x : ContainerWords). x.block) same);
       only = loaded_put (view s.pass.now) (view c.read_word.new.pass) s.o (loaded_by (ReadTable t (8 * c.args.place + c.args.word + s.mask + 1) f) (view s.pass.now) (view c.read_word.new.pass) tt c.read_word.ensures.did.1);
     }

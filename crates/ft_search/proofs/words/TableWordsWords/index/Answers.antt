@@ -1,6 +1,9 @@
-use Rattle.std.proofs.Common.{refl, sym, ◌∙◌}
+use Rattle.std.proofs.Common.{◌<◌, ◌∷◌, refl, sym, ap, ◌∙◌, subst}
+use Rattle.ft_trace.specs.declared.Shape.{Shape}
+use Rattle.ft_trace.specs.Pictures.{ContainerWords}
 use Rattle.ft_bank.specs.Passes.{shape_of, view}
 use Rattle.ft_bank.specs.TableNames.{table_id}
+use Rattle.ft_trace.specs.Addresses.{container_count}
 use Rattle.ft_trace.specs.Holds.{held_words}
 use Rattle.ft_bank.proofs.KnownAfterWrites.{loaded_by, loaded_put}
 use Rattle.ft_trace.specs.declared.Act.TheVariants.{ReadTable}
@@ -28,5 +31,9 @@ returns-clause-gave c =
       left = λ k.
           loaded_leaves (view s.pass.now) (view c.read_word.new.pass) s.o (table_id s.table) c.args.slot c.read_word.result
           c.read_word.ensures.did.1 k;
+      reads = λ k none.
+          let l = loaded_by (ReadTable (table_id s.table) c.args.slot c.read_word.result) (view s.pass.now) (view c.read_word.new.pass) tt c.read_word.ensures.did.1 in
+          let same = l.unboxed s.o (subst (λ (z : Shape). s.o < container_count z) (sym c.requires.can.pass.1) c.requires.can.container) k.0 in
+          (ap (λ (x : ContainerWords). 0 ∷ 0 ∷ x.table) same, ap (λ (x : ContainerWords). x.block) same);
       only = loaded_put (view s.pass.now) (view c.read_word.new.pass) s.o (loaded_by (ReadTable (table_id s.table) c.args.slot c.read_word.result) (view s.pass.now) (view c.read_word.new.pass) tt c.read_word.ensures.did.1);
     }

@@ -1,9 +1,13 @@
-use Rattle.std.proofs.Common.{ℕ, ◌+◌, ◌*◌, refl, sym, subst}
+use Rattle.std.proofs.Common.{ℕ, ◌+◌, ◌*◌, ◌∷◌, refl, sym, ap, ◌∙◌, subst}
 use Rattle.std.specs.Prelude.{slice_set}
 use Rattle.ft_bank.specs.Passes.{shape_of, view, Did}
 use Rattle.ft_bank.specs.TableNames.{table_id}
 use Rattle.ft_bank.specs.WriteSteps.{IsCareful}
-use Rattle.ft_trace.specs.Holds.{held_words}
+use Rattle.ft_trace.specs.Addresses.{class_of}
+use Rattle.ft_trace.specs.ContainerStates.{kind_in}
+use Rattle.ft_trace.specs.Holds.{held_words, held_unboxed}
+use Rattle.ft_trace.specs.Pictures.{ContainerWords}
+use Rattle.ft_trace.specs.WholeWrites.{IsNoValue}
 use Rattle.ft_trace.specs.declared.Act.TheVariants.{PutTable}
 use Rattle.ft_layout.specs.Tables.{entry_at}
 use Rattle.ft_search.specs.TableWords.{known_words}
@@ -43,5 +47,9 @@ returns-clause-gave c =
           c.args.value (slice_set (known_words s) (entry_at s.mask c.args.place c.args.word) c.args.value)
           c.put_word.ensures.did.1 c.put_word.ensures.held
           (put_entry_after_header (held_words s.o (view s.pass.now)).table s.mask c.args.place c.args.word c.args.value) k;
-      only = put_by (PutTable s.o t (8 * c.args.place + c.args.word + s.mask + 1) c.args.value) (view s.pass.now) (view c.put_word.new.pass) s.o tt c.put_word.ensures.did.1 c.put_word.ensures.keeps;
+      reads = λ k none.
+          let kd = kind_in (shape_of s.bank.now).starts s.o in
+          let put = c.put_word.ensures.unboxed (subst (λ (i : ℕ). IsNoValue kd (class_of t) i) (sym e) none) in
+          (ap (λ (x : ContainerWords). 0 ∷ 0 ∷ x.table) put ∙ put_entry_after_header (held_unboxed s.o (view s.pass.now)).table s.mask c.args.place c.args.word c.args.value, ap (λ (x : ContainerWords). x.block) put);
+      only = put_by (PutTable s.o t (8 * c.args.place + c.args.word + s.mask + 1) c.args.value) (view s.pass.now) (view c.put_word.new.pass) s.o tt c.put_word.ensures.did.1 c.put_word.ensures.keeps c.put_word.ensures.moves;
     }

@@ -1,0 +1,57 @@
+-- What steps leave of what a pass has to do with boxes.
+use Rattle.std.specs.Prelude.{◌≡◌, ◌⊎◌, ℕ, ◌+◌, ◌^◌, ◌<◌, ◌≤◌, true}
+use Rattle.ft_model.specs.declared.script.Kind.{Kind}
+use Rattle.ft_layout.specs.Starts.{kind_word, payload_word}
+use Rattle.ft_trace.specs.declared.View.{View}
+use Rattle.ft_trace.specs.Addresses.{IsBoxName}
+use Rattle.ft_trace.specs.Boxes.{named_in_root, made_state, local_count, taken_out, place_to_give, references_held, known_box_word, knows_box_word}
+use Rattle.ft_trace.specs.ContainerStates.{kind_in}
+use Rattle.ft_trace.specs.Holds.{held_words}
+use Rattle.ft_trace.specs.Pictures.{ContainerWords, root_in}
+
+-- the pass holds as many references for each box
+abbrev pub SameReferences : View → View → Type 0
+SameReferences v w = (b : ℕ) → references_held w.shape b w.log ≡ references_held v.shape b v.log
+
+-- the boxes that the pass made are in the same states, with the same counts, and it has the same places to give back
+pub record SameMade (v w : View) : Type 0 where
+  pub state : (b : ℕ) → made_state b w.log ≡ made_state b v.log
+  pub local : (b : ℕ) → local_count b w.log ≡ local_count b v.log
+  pub taken : (b : ℕ) → taken_out b w.log ≡ taken_out b v.log
+  pub places : (b : ℕ) → place_to_give b w.log ≡ place_to_give b v.log
+
+-- what the pass knew of the value in a box it knows still
+abbrev pub KnowsBoxes : View → View → Type 0
+KnowsBoxes v w =
+    (b i : ℕ) → IsBoxName v.shape b → (i ≡ kind_word) ⊎ (i ≡ payload_word)
+    → knows_box_word v.shape b i v.log ≡ true
+    → (knows_box_word w.shape b i w.log ≡ true)
+    × (known_box_word w.shape b i w.log ≡ known_box_word v.shape b i v.log)
+
+-- all that the pass has to do with boxes is as it was
+pub record SameBoxes (v w : View) : Type 0 where
+  pub references : SameReferences v w
+  pub made : SameMade v w
+  pub knows : KnowsBoxes v w
+
+-- how many values of a container with these words name the box
+abbrev pub named_in_words : ℕ → Kind → ContainerWords → ℕ
+named_in_words b kind x = named_in_root b kind (root_in x) x.table
+
+-- The references that the words of the container o have no longer are those that the pass holds more, and the other way
+-- round.
+abbrev pub MovesReferences : ℕ → View → View → Type 0
+MovesReferences o v w =
+    (b : ℕ) → references_held w.shape b w.log + named_in_words b (kind_in w.shape.starts o) (held_words o w)
+    ≡ references_held v.shape b v.log + named_in_words b (kind_in v.shape.starts o) (held_words o v)
+
+-- The pass holds no more references than before, but those that the words of the container o have no longer; some of
+-- them it may have dropped.
+abbrev pub LosesReferences : ℕ → View → View → Type 0
+LosesReferences o v w =
+    (b : ℕ) → references_held w.shape b w.log + named_in_words b (kind_in w.shape.starts o) (held_words o w)
+    ≤ references_held v.shape b v.log + named_in_words b (kind_in v.shape.starts o) (held_words o v)
+
+-- the pass holds so few references for each box that more can be counted
+abbrev pub HoldsFew : View → Type 0
+HoldsFew v = (b : ℕ) → references_held v.shape b v.log < 2 ^ 31

@@ -1,0 +1,140 @@
+//! Rounds of calls on boxes: by the pass that made them, and by another one.
+ghost use Rattle.std.specs.Prelude.{◌≡◌, ℕ, IfOk, IfSome};
+ghost use Rattle.ft_bank.specs.BoxSteps.{IsBoxIn};
+ghost use Rattle.ft_bank.specs.NewPasses.{IsOpening, AreOpening};
+ghost use Rattle.ft_bank.specs.Passes.{shape_of};
+ghost use Rattle.ft_bank_bench.specs.Counting.{MayCount};
+
+use ft_bank::{Bank, Pass, Shape};
+use ft_bank_tests::small_shape;
+use ft_boxes::{Made, Raised, keep, make, new_passes_are_settled, raise, release};
+use ft_layout::Ref;
+use ft_model::{Kind, Value};
+use std::alloc::{AllocError, Global};
+
+/// A bank of two passes, of which one made a box.
+pub struct Boxes {
+    pub bank: Bank,
+    pub maker: Pass,
+    pub other: Pass,
+    pub at: Ref,
+}
+
+/// A list, and two passes with 64 places each.
+fn two_heaps(alloc: Global) -> Result<Shape, AllocError>
+    ensures { IfOk result (λ s. (s.passes ≡ 2) × (s.heap ≡ 64)) }
+{
+    small_shape(alloc, vec![in alloc; Kind::List]?, 2, 1)
+}
+
+/// The two passes of a bank.
+fn two_of(bank: &Bank, passes: Vec<Pass>) -> Option<(Pass, Pass)>
+    requires { AreOpening bank.now 0 passes.items }
+    ensures first { IfSome result (λ p. IsOpening bank.now 0 p.0) }
+    ensures second { IfSome result (λ p. IsOpening bank.now 1 p.1) }
+{
+    let _ = bank;
+    let mut each = passes.into_iter();
+    let first = each.next()?;
+    let second = each.next()?;
+    Some((first, second))
+}
+
+/// A box of a new pass, which keeps it; nothing where its heap has no place.
+fn make_box(bank: &Bank, pass: &mut Pass) -> Option<Ref>
+    requires { (i : ℕ) × IsOpening bank.now i pass.old }
+    ensures counts { MayCount bank.now pass.new }
+    ensures name { IfSome result (IsBoxIn (shape_of bank.now)) }
+{
+    new_passes_are_settled(bank, pass);
+    match make(bank, pass, Value::Int(1_000)) {
+        Made::Up(held) => Some(keep(bank, pass, held)),
+        Made::HeapFull => None,
+    }
+}
+
+/// A bank with a box; nothing where memory ran out.
+pub fn make_boxes(alloc: Global) -> Result<Option<Boxes>, AllocError>
+    ensures maker { IfOk result (λ made. IfSome made (λ r. MayCount r.bank r.maker)) }
+    ensures other { IfOk result (λ made. IfSome made (λ r. MayCount r.bank r.other)) }
+    ensures name { IfOk result (λ made. IfSome made (λ r. IsBoxIn (shape_of r.bank) r.at)) }
+{
+    let shape = two_heaps(alloc)?;
+    if !shape.fits() {
+        return Ok(None);
+    }
+    let Ok((bank, passes)) = Bank::new(alloc, shape) else {
+        return Ok(None);
+    };
+    let Some((mut maker, other)) = two_of(&bank, passes) else {
+        return Ok(None);
+    };
+    new_passes_are_settled(&bank, &other);
+    let Some(at) = make_box(&bank, &mut maker) else {
+        return Ok(None);
+    };
+    Ok(Some(Boxes {
+        bank,
+        maker,
+        other,
+        at,
+    }))
+}
+
+/// Makes a box and drops it. Says whether there was a place.
+fn make_once(bank: &Bank, pass: &mut Pass) -> bool
+    requires { MayCount bank.now pass.old }
+    ensures { MayCount bank.now pass.new }
+{
+    match make(bank, pass, Value::Int(2_000)) {
+        Made::Up(held) => {
+            release(bank, pass, held);
+            true
+        }
+        Made::HeapFull => false,
+    }
+}
+
+/// Boxes, each made and dropped at once. How often that was done.
+pub fn make_all(bank: &Bank, pass: &mut Pass, rounds: u32) -> u32
+    requires { MayCount bank.now pass.old }
+    ensures { MayCount bank.now pass.new }
+{
+    let mut done = 0u32;
+    for _ in 0..rounds {
+        if make_once(bank, pass) {
+            done = done.saturating_add(1);
+        }
+    }
+    done
+}
+
+/// Raises a box and drops it. Says whether it was raised.
+fn raise_once(bank: &Bank, pass: &mut Pass, b: Ref) -> bool
+    requires counts { MayCount bank.now pass.old }
+    requires name { IsBoxIn (shape_of bank.now) b }
+    ensures { MayCount bank.now pass.new }
+{
+    match raise(bank, pass, b) {
+        Raised::Up(held) => {
+            release(bank, pass, held);
+            true
+        }
+        Raised::Dead | Raised::Moved(_, _) => false,
+    }
+}
+
+/// A box, raised and dropped. How often that was done.
+pub fn raise_all(bank: &Bank, pass: &mut Pass, b: Ref, rounds: u32) -> u32
+    requires counts { MayCount bank.now pass.old }
+    requires name { IsBoxIn (shape_of bank.now) b }
+    ensures { MayCount bank.now pass.new }
+{
+    let mut done = 0u32;
+    for _ in 0..rounds {
+        if raise_once(bank, pass, b) {
+            done = done.saturating_add(1);
+        }
+    }
+    done
+}

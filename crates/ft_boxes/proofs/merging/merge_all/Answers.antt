@@ -1,0 +1,71 @@
+use Rattle.std.proofs.Common.{◌≡◌, ℕ, ap, sym, ◌∙◌, refl, subst, arith}
+use Rattle.ft_layout.specs.declared.slot.Ref.{Ref}
+use Rattle.ft_trace.specs.Addresses.{place_in}
+use Rattle.ft_trace.specs.Boxes.{made_state, references_held}
+use Rattle.ft_trace.specs.declared.Shape.{Shape}
+use Rattle.ft_bank.specs.Passes.{shape_of, view}
+use Rattle.ft_bank.proofs.KnownAfterWrites.{boxed_then}
+use Rattle.ft_boxes.proofs.Heaps.{first_then, merged_next, name_sum, number_is_low, others_next, own_low, own_name}
+use Rattle.ft_boxes.proofs.Steps.{same_then}
+use Rattle.ft_boxes.proofs.merging.merge_all.Goals as goal
+
+pub merge_own-requires-clause-name : goal.merge_own-requires-clause-name
+merge_own-requires-clause-name c =
+    let v = view c.args.pass.now in
+    let less = c.loop-place-test.true in
+    let end = c.heap-place-end.ensures in
+    (own_low v (shape_of c.args.bank.now) c.number-maker.result c.requires.pass.1 c.number-maker.ensures.number (number_is_low v c.number-maker.ensures.possible), omega (arith, less, end))
+
+pub loop-place-preserved : goal.loop-place-preserved
+loop-place-preserved c =
+    let v = view c.args.pass.now in
+    let x = view c.loop-place.pass in
+    let w = view c.merge_own.new.pass in
+    let old = c.loop-place.invariant in
+    let now = c.merge_own.ensures in
+    let b : Ref = record { pass = c.number-maker.result; place = c.loop-place.place } in record {
+      pass = now.pass;
+      sections = now.sections ∙ old.sections;
+      settled = now.settled;
+      only = boxed_then v x w old.only now.only;
+      same = same_then v x w old.same now.same;
+      values = first_then v x w old.only old.same old.values now.values;
+      merged = merged_next x w b c.number-maker.result c.loop-place.place refl now.others now.shared old.merged;
+      others = others_next v x w b now.others now.was old.others;
+    }
+
+pub returns-clause-merges : goal.returns-clause-merges
+returns-clause-merges c = record {
+  all = λ b own.
+      let w = view c.loop-place.pass in
+      let old = c.loop-place.invariant in
+      let name = own_name w c.loop-place.pass.possible b own in
+      let number = old.only.work.pass.number ∙ c.number-maker.ensures.number in
+      let is = name_sum b c.number-maker.result w.number name.0 number in
+      let heap = ap (λ (z : Shape). z.heap) (old.only.work.pass.shape ∙ c.requires.pass.1) in
+      let end = c.heap-place-end.ensures in
+      let done = c.loop-place-test.false in
+      let low = name.1 in
+      old.merged (place_in b) (omega (arith, heap, end, done, low)) (ap (λ (n : ℕ). made_state n w.log) (sym is) ∙ own);
+  others = c.loop-place.invariant.others;
+}
+
+pub returns-clause-done : goal.returns-clause-done
+returns-clause-done c none b =
+    let v = view c.args.pass.now in
+    let w = view c.loop-place.pass in
+    let old = c.loop-place.invariant in
+    let shape = c.requires.pass.1 in (
+      subst (λ (z : Shape). references_held z b w.log ≡ 0) (old.only.work.pass.shape ∙ shape) (old.same b ∙ (ap (λ (z : Shape). references_held z b v.log) shape ∙ none b)),
+      old.settled.unmade b,
+      (λ own.
+          let name = own_name w c.loop-place.pass.possible b own in
+          let number = old.only.work.pass.number ∙ c.number-maker.ensures.number in
+          let is = name_sum b c.number-maker.result w.number name.0 number in
+          let heap = ap (λ (z : Shape). z.heap) (old.only.work.pass.shape ∙ shape) in
+          let end = c.heap-place-end.ensures in
+          let done = c.loop-place-test.false in
+          let low = name.1 in
+          old.merged (place_in b) (omega (arith, heap, end, done, low)) (ap (λ (n : ℕ). made_state n w.log) (sym is) ∙ own)),
+      old.settled.given b,
+    )

@@ -1,0 +1,153 @@
+-- A dict or a set whose root was put: the pass holds the references of the boxes that the table which was taken out names,
+-- and drops them.
+use Rattle.std.proofs.Common.{◌≡◌, ◌≢◌, ℕ, suc, ◌<◌, true, cond, Option, Some, None, refl, sym, ap, ◌∙◌, subst, arith, get_or-set_same}
+use Rattle.std.specs.Prelude.{◌==◌, slice_set}
+use Rattle.ft_trace.specs.declared.Act.TheVariants.{StartWrite, PutRoot}
+use Rattle.ft_trace.specs.declared.Shape.{Shape}
+use Rattle.ft_trace.specs.declared.View.{View}
+use Rattle.ft_trace.specs.Acts.{has_lock, is_writing, mem, stage, view_after}
+use Rattle.ft_trace.specs.Addresses.{container_count, class_of, IsTableName}
+use Rattle.ft_trace.specs.Boxes.{named_in_root, references_held, IsDoneWithBoxes}
+use Rattle.ft_trace.specs.ContainerStates.{kind_in}
+use Rattle.ft_trace.specs.Holds.{held_words, held_unboxed, in_hand}
+use Rattle.ft_trace.specs.Kinds.{rows}
+use Rattle.ft_trace.specs.Pictures.{root_in}
+use Rattle.ft_trace.specs.Traces.{IsReachable}
+use Rattle.ft_trace.proofs.Cases.{hit, miss}
+use Rattle.ft_trace.proofs.Pieces.{block_long}
+use Rattle.ft_bank.specs.declared.table.Table.{Table}
+use Rattle.ft_bank.specs.SameBoxes.{named_in_words, MovesReferences, SameMade}
+use Rattle.ft_bank.specs.TableNames.{table_id, root_for, IsTableIn}
+use Rattle.ft_bank.specs.Whole.{OnlyBoxed}
+use Rattle.ft_bank.specs.WriteSteps.{KeepsUnwritten}
+use Rattle.ft_bank.proofs.BoxedSteps.{made_then}
+use Rattle.ft_bank.proofs.DoneBoxes.{done_none, none_named}
+use Rattle.ft_bank.proofs.KnownAfterWrites.{boxed_written}
+use Rattle.ft_bank.proofs.TableAddresses.{named}
+use Rattle.ft_bank.proofs.WordsPut.{taken_words}
+use Rattle.ft_search.specs.OneEntryWrites.{WritesEntries}
+use Rattle.ft_search.proofs.Overs.{boxed_held}
+use Rattle.ft_table_calls.specs.Dropping.{HoldsNamed, SharesBoxes}
+use Rattle.ft_table_calls.proofs.Dropped.{holds_named, shares_done}
+use Rattle.ft_table_calls.proofs.PlainTables.{ArePlain, plain_named}
+use Rattle.ft_new_keys.specs.KeyGrowth.{BeginsIn, HoldsOld, MayGrowKeyed}
+use Rattle.ft_new_keys.proofs.Keyed.{fresh_other}
+
+module _ (k : Shape) (o : ℕ) (old : Option Table) (table : Table) (v s r : View) (f : ℕ) (shape : v.shape ≡ k) (possible : ∥ IsReachable v ∥₁) (may : MayGrowKeyed k o old table v) (plain : ArePlain (kind_in v.shape.starts o) (class_of (table_id table)) (in_hand (table_id table) v) (rows (kind_in v.shape.starts o) (class_of (table_id table)))) (started : s ≡ view_after (StartWrite o f) v)
+    (put : r ≡ view_after (PutRoot o (suc (table_id table)) (root_in (held_words o s))) s) (keeps : KeepsUnwritten s r) (moves : MovesReferences o s r) (held : held_words o r ≡ record { block = slice_set (held_words o s).block 0 (suc (table_id table)); table = in_hand (table_id table) s }) where
+  abbrev begun : View
+  begun = view_after (StartWrite o f) v
+
+  pub is_rooted : r ≡ view_after (PutRoot o (suc (table_id table)) (root_in (held_words o v))) begun
+  is_rooted = put ∙ (λ d. view_after (PutRoot o (suc (table_id table)) (root_in (held_words o (started d)))) (started d))
+
+  keeps_begun : KeepsUnwritten begun r
+  keeps_begun = subst (λ (z : View). KeepsUnwritten z r) started keeps
+
+  moves_begun : MovesReferences o begun r
+  moves_begun = subst (λ (z : View). MovesReferences o z r) started moves
+
+  held_begun : held_words o r ≡ record { block = slice_set (held_words o v).block 0 (suc (table_id table)); table = in_hand (table_id table) v }
+  held_begun = held ∙ (λ d. record { block = slice_set (held_words o (started d)).block 0 (suc (table_id table)); table = in_hand (table_id table) (started d) })
+
+  shape_r : r.shape ≡ v.shape
+  shape_r = ap (λ (z : View). z.shape) is_rooted
+
+  low : o < container_count v.shape
+  low = subst (λ (z : Shape). o < container_count z) (sym shape) may.keyed.container
+
+  done_v : IsDoneWithBoxes v.shape v.log
+  done_v = subst (λ (z : Shape). IsDoneWithBoxes z v.log) (sym shape) may.boxes
+
+  made_r : SameMade v r
+  made_r = subst (SameMade v) (sym is_rooted) (record { state = λ b. refl; local = λ b. refl; taken = λ b. refl; places = λ b. refl })
+
+  root_r : root_in (held_words o r) ≡ suc (table_id table)
+  root_r =
+      ap root_in held_begun
+      ∙ get_or-set_same (held_words o v).block 0 (suc (table_id table)) 0 (let long = block_long v.shape o (mem v.shape v.log) in omega (arith, long))
+
+  -- no word names a box any longer
+  none_r : (b : ℕ) → named_in_words b (kind_in r.shape.starts o) (held_words o r) ≡ 0
+  none_r b =
+      (λ d. named_in_root b (kind_in (shape_r d).starts o) (root_r d) (held_begun d).table)
+      ∙ plain_named b (table_id table) (kind_in v.shape.starts o) (in_hand (table_id table) v) plain
+
+  -- ---- the table that was taken out
+
+  module _ (t : Table) (has : old ≡ Some t) where
+    was_in : IsTableIn k t
+    was_in = may.keyed.table_in t has
+
+    was_root : root_in (held_words o v) ≡ suc (table_id t)
+    was_root = may.keyed.root ∙ ap root_for has
+
+    other : suc (table_id table) ≢ suc (table_id t)
+    other e = fresh_other k v o table shape possible may.keyed.container may.keyed.locked may.table_in may.fresh (was_root ∙ sym e)
+
+    pub was_out : IsTableIn k t × (stage (table_id t) r.log ≡ 3)
+    was_out =
+        let n = stage (table_id t) v.log in (
+          was_in,
+          ap (λ (z : View). stage (table_id t) z.log) is_rooted
+              ∙ (miss (suc (table_id table)) (suc (table_id t)) 0 (cond (root_in (held_words o v) == suc (table_id t)) 3 n) other
+              ∙ (ap (λ (z : ℕ). cond (z == suc (table_id t)) 3 n) was_root ∙ hit (suc (table_id t)) 3 n)),
+        )
+
+    was_named : HoldsNamed k o (table_id t) r
+    was_named =
+        let hand : in_hand (table_id t) r ≡ (held_words o v).table =
+        ap (λ (z : View). in_hand (table_id t) z) is_rooted
+        ∙ taken_words begun o (table_id t) (suc (table_id table)) (root_in (held_words o v)) low (subst (λ (z : Shape). IsTableName z (table_id t)) (sym shape) (named k t was_in)) was_root in
+        holds_named k o (table_id t) begun r shape shape_r may.boxes moves_begun was_root hand none_r
+
+  pub shared_r : SharesBoxes r
+  shared_r = shares_done k v r may.boxes made_r
+
+  pub held_old : HoldsOld k o old r
+  held_old = by old refl
+    where
+      by : (any : Option Table) → old ≡ any → HoldsOld k o any r
+      by (Some t) has = was_named t has
+      by None has = λ b.
+          let moved = moves_begun b in
+          let none = none_r b in
+          let done = (done_v b).0 in
+          let bare = none_named b (kind_in v.shape.starts o) (held_words o v) (may.keyed.root ∙ ap root_for has) in
+          let now : references_held k b r.log ≡ references_held r.shape b r.log = ap (λ (z : Shape). references_held z b r.log) (sym (shape_r ∙ shape)) in
+          omega (arith, moved, none, done, bare, now)
+
+  -- ---- after the drop
+
+  module _ (w : View) (boxed : OnlyBoxed r w) (made : SameMade r w) (none : (b : ℕ) → references_held k b w.log ≡ 0) where
+    shape_w : w.shape ≡ k
+    shape_w = boxed.work.pass.shape ∙ (shape_r ∙ shape)
+
+    gone : (b : ℕ) → references_held w.shape b w.log ≡ 0
+    gone b = ap (λ (z : Shape). references_held z b w.log) shape_w ∙ none b
+
+    pub begins : BeginsIn o table v w
+    begins = record {
+      found = f;
+      rooted = r;
+      is = is_rooted;
+      keeps = keeps_begun;
+      moves = moves_begun;
+      only = boxed_written o r w boxed made (λ b. let z = gone b in omega (arith, z));
+    }
+
+    pub begun_writes : WritesEntries k o table w
+    begun_writes = record {
+      container = may.keyed.container;
+      keyed = may.keyed.keyed;
+      table_in = may.table_in;
+      locked = boxed.work.pass.locks o ∙ (ap (λ (z : View). has_lock o z.log) is_rooted ∙ may.keyed.locked);
+      odd = boxed.work.pass.writes o ∙ (ap (λ (z : View). is_writing o z.log) is_rooted ∙ hit o true (is_writing o v.log));
+      root = ap root_in (boxed_held r w o boxed) ∙ root_r;
+      boxes = subst (λ (z : Shape). IsDoneWithBoxes z w.log) shape_w (done_none v w gone (made_then v r w made_r made) done_v);
+    }
+
+    pub begun_words : held_unboxed o w ≡ held_unboxed o r
+    begun_words =
+        boxed.unboxed o (subst (λ (z : Shape). o < container_count z) (sym shape_r) low)
+        (ap (λ (z : View). has_lock o z.log) is_rooted ∙ may.keyed.locked)

@@ -1,0 +1,210 @@
+//! Values that stand in boxes: what their words read, a put over one, and the drop of a reference that no word has any
+//! longer.
+ghost use Rattle.std.specs.Prelude.{◌≡◌, ◌≢◌, ℕ, ◌+◌, ◌/◌, ◌^◌, ◌<◌, ◌==◌, List, cond, slice_index};
+ghost use Rattle.ft_trace.specs.declared.Act.{Act};
+ghost use Rattle.ft_trace.specs.Addresses.{class_of, maker_of, place_in, IsBoxName};
+ghost use Rattle.ft_trace.specs.Boxes.{made_state, place_to_give, references_held, state_default, IsDoneWithBoxes};
+ghost use Rattle.ft_trace.specs.BoxWords.{box_kind};
+ghost use Rattle.ft_trace.specs.Holds.{held_words, held_unboxed};
+ghost use Rattle.ft_bank.specs.BoxSteps.{kind_read, payload_read, IsOpenValue};
+ghost use Rattle.ft_bank.specs.Passes.{shape_of, view, IsPassOf};
+ghost use Rattle.ft_bank.specs.PassSections.{stack_of};
+ghost use Rattle.ft_bank.specs.SameBoxes.{SameMade};
+ghost use Rattle.ft_bank.specs.Series.{DidAll};
+ghost use Rattle.ft_bank.specs.TableNames.{table_id, IsPlaceOf};
+ghost use Rattle.ft_bank.specs.Whole.{OnlyBoxed, OnlyLoaded, OnlyWritten};
+ghost use Rattle.ft_bank.specs.WriteSteps.{with_table};
+ghost use Rattle.ft_search.specs.Boxed.{IsKnownBox, NamedAreKnown, SeesKnown, SeesValue, WritesTable, box_acts};
+ghost use Rattle.ft_search.specs.KeyLooks.{AreLooks};
+ghost use Rattle.ft_search.specs.SearchCosts.{index_reads};
+
+use ft_bank::{Bank, Pass, Table};
+use ft_layout::Ref;
+
+/// The kind of a value that stands in a box.
+pub(crate) const BOX_KIND: u64 = 4;
+/// The kind, the payload: which words of a box they are.
+const KIND: u64 = 1;
+
+const PAYLOAD: u64 = 2;
+/// The step between the names of two passes' first boxes.
+const NAMES: u64 = 65536;
+/// The shared word of a merged box for which there is one reference.
+const LAST: u64 = 7;
+
+/// The box that a payload names.
+pub(crate) fn box_of(payload: u64) -> Ref
+    requires { payload / 65536 < 2 ^ 32 }
+    ensures maker { result.pass ≡ maker_of payload }
+    ensures place { result.place ≡ place_in payload }
+{
+    Ref {
+        pass: (payload / NAMES) as u32,
+        place: (payload % NAMES) as u32,
+    }
+}
+
+/// Whoever has the lock of a container knows the value in each box that its table names.
+pub fn named_boxes_are_known(pass: &Pass)
+    ensures { NamedAreKnown (view pass.now) }
+{
+    let _ = pass;
+}
+
+/// What a value reads that has these words: one that names a box, whose value the pass knows, has the kind and the
+/// payload that stand there.
+pub fn read_value(bank: &Bank, pass: &mut Pass, kind: u64, payload: u64) -> (u64, u64)
+    requires pass { IsPassOf bank.now pass.old }
+    requires known { kind ≡ box_kind → IsKnownBox (view pass.old) payload }
+    ensures pass { IsPassOf bank.now pass.new }
+    ensures looks { (part : List Act) × AreLooks part × DidAll part pass.old pass.new × ((t : ℕ) → index_reads t part ≡ 0) }
+    ensures only { OnlyLoaded (view pass.old) (view pass.new) }
+    ensures kind { result.0 ≡ kind_read (view pass.old) kind payload }
+    ensures payload { result.1 ≡ payload_read (view pass.old) kind payload }
+{
+    if kind != BOX_KIND {
+        return (kind, payload);
+    }
+    let b = box_of(payload);
+    let kind = bank.read_box(pass, b, KIND);
+    let value = bank.read_box(pass, b, PAYLOAD);
+    (kind, value)
+}
+
+/// What a value was read as that has certain words.
+#[derive(Clone, Copy)]
+pub struct SeenValue {
+    /// Whether it was read in a box.
+    pub boxed: bool,
+    /// The kind that was read.
+    pub kind: u64,
+    /// The payload that was read.
+    pub value: u64,
+}
+
+/// Reads the value that has these words, for whoever may not have the lock: in the box that they name, where the bank
+/// has it, and else in place. Without the lock nobody keeps the box, so what was read counts only where the words stood
+/// meanwhile.
+#[inline(always)]
+pub fn see_value(bank: &Bank, pass: &mut Pass, kind: u64, payload: u64) -> SeenValue
+    requires pass { IsPassOf bank.now pass.old }
+    ensures pass { IsPassOf bank.now pass.new }
+    ensures stack { stack_of pass.new ≡ stack_of pass.old }
+    ensures did { DidAll (box_acts result.boxed payload result.kind result.value) pass.old pass.new }
+    ensures sees { SeesValue (shape_of bank.now) kind payload result }
+    ensures known { SeesKnown (view pass.old) payload result }
+{
+    let in_place = SeenValue {
+        boxed: false,
+        kind,
+        value: payload,
+    };
+    if kind != BOX_KIND {
+        return in_place;
+    }
+    let passes = u64::from(bank.passes());
+    let maker = payload / NAMES;
+    if passes <= maker {
+        return in_place;
+    }
+    let heap = u64::from(bank.heap());
+    let place = payload % NAMES;
+    if heap <= place {
+        return in_place;
+    }
+    let b = box_of(payload);
+    let found = bank.read_box(pass, b, KIND);
+    let value = bank.read_box(pass, b, PAYLOAD);
+    SeenValue {
+        boxed: true,
+        kind: found,
+        value,
+    }
+}
+
+/// Drops a reference that the pass holds for a box which it shares with others; who brings the box to its end gives the
+/// place back.
+pub fn release(bank: &Bank, pass: &mut Pass, payload: u64)
+    requires pass { IsPassOf bank.now pass.old }
+    requires name { IsBoxName (shape_of bank.now) payload }
+    requires shared { made_state payload (view pass.old).log ≢ state_default }
+    requires held { 0 < references_held (shape_of bank.now) payload (view pass.old).log }
+    requires none { place_to_give payload (view pass.old).log ≡ 0 }
+    ensures pass { IsPassOf bank.now pass.new }
+    ensures stack { stack_of pass.new ≡ stack_of pass.old }
+    ensures only { OnlyBoxed (view pass.old) (view pass.new) }
+    ensures made { SameMade (view pass.old) (view pass.new) }
+    ensures references { (b : ℕ) → references_held (shape_of bank.now) b (view pass.old).log ≡
+        references_held (shape_of bank.now) b (view pass.new).log + cond (b == payload) 1 0 }
+{
+    let b = box_of(payload);
+    let found = bank.drop_shared(pass, b);
+    if found != LAST {
+        return;
+    }
+    bank.give_place(pass, b);
+}
+
+/// Puts a value over that of an entry or item whose version is odd, whose kind lies at this word of the table. Where the
+/// old value names a box its reference is dropped. `start` is where the table's words lie.
+#[inline(always)]
+pub fn put_over(
+    bank: &Bank,
+    pass: &mut Pass,
+    o: u32,
+    table: Table,
+    start: u64,
+    word: u64,
+    kind: u64,
+    payload: u64,
+)
+    requires pass { IsPassOf bank.now pass.old }
+    requires writes { WritesTable (shape_of bank.now) o table (view pass.old) }
+    requires start { IsPlaceOf (shape_of bank.now) table start }
+    requires open { IsOpenValue (view pass.old) o (table_id table) word }
+    requires plain { kind ≢ box_kind }
+    ensures pass { IsPassOf bank.now pass.new }
+    ensures stack { stack_of pass.new ≡ stack_of pass.old }
+    ensures writes { WritesTable (shape_of bank.now) o table (view pass.new) }
+    ensures only { OnlyWritten o (view pass.old) (view pass.new) }
+    ensures raw { slice_index (held_words o (view pass.new)).table word ≢ box_kind }
+    ensures words { held_unboxed o (view pass.new) ≡
+        with_table (with_table (held_unboxed o (view pass.old)) word kind) (word + 1) payload }
+{
+    let old = bank.read_word(pass, table, start, word);
+    if old == kind {
+        bank.put_payload(pass, o, table, start, word, payload);
+        return;
+    }
+    let named = bank.read_word(pass, table, start, word + 1);
+    bank.put_value(pass, o, table, start, word, kind, payload);
+    if old != BOX_KIND {
+        return;
+    }
+    release(bank, pass, named);
+}
+
+/// Puts the value of an entry or item whose version is odd in its place, where it stands in a box, and drops the
+/// reference: the words read the same. What the value reads names no box.
+#[inline(always)]
+pub fn put_unboxed(bank: &Bank, pass: &mut Pass, o: u32, table: Table, start: u64, word: u64)
+    requires pass { IsPassOf bank.now pass.old }
+    requires writes { WritesTable (shape_of bank.now) o table (view pass.old) }
+    requires start { IsPlaceOf (shape_of bank.now) table start }
+    requires open { IsOpenValue (view pass.old) o (table_id table) word }
+    requires plain { slice_index (held_unboxed o (view pass.old)).table word ≢ box_kind }
+    ensures pass { IsPassOf bank.now pass.new }
+    ensures stack { stack_of pass.new ≡ stack_of pass.old }
+    ensures writes { WritesTable (shape_of bank.now) o table (view pass.new) }
+    ensures only { OnlyWritten o (view pass.old) (view pass.new) }
+    ensures raw { slice_index (held_words o (view pass.new)).table word ≢ box_kind }
+    ensures words { held_unboxed o (view pass.new) ≡ held_unboxed o (view pass.old) }
+{
+    let old = bank.read_word(pass, table, start, word);
+    if old != BOX_KIND {
+        return;
+    }
+    let named = bank.read_word(pass, table, start, word + 1);
+    let read = read_value(bank, pass, old, named);
+    put_over(bank, pass, o, table, start, word, read.0, read.1);
+}

@@ -1,0 +1,127 @@
+use Rattle.std.proofs.Common.{◌≡◌, ℕ, ◌+◌, ◌<◌, List, refl, sym, ap, ◌∙◌, subst, arith}
+use Rattle.std.specs.Prelude.{slice_index}
+use Rattle.ft_trace.specs.declared.Act.TheVariants.{ReadTable}
+use Rattle.ft_trace.specs.declared.Shape.{Shape}
+use Rattle.ft_trace.specs.declared.View.{View}
+use Rattle.ft_trace.specs.Addresses.{IsBoxName}
+use Rattle.ft_trace.specs.Boxes.{names_box, references_held}
+use Rattle.ft_trace.specs.Holds.{in_hand}
+use Rattle.ft_bank.specs.Passes.{shape_of, view}
+use Rattle.ft_bank.specs.TableNames.{table_id}
+use Rattle.ft_bank.specs.Whole.{OnlyLoaded}
+use Rattle.ft_bank.proofs.BoxedSteps.{made_then}
+use Rattle.ft_bank.proofs.KnownAfterWrites.{boxed_then, loaded_boxed, loaded_by, loaded_then}
+use Rattle.ft_search.proofs.Overs.{boxed_names, other_way, plain_names}
+use Rattle.ft_table_calls.specs.Dropping.{SharesBoxes}
+use Rattle.ft_table_calls.proofs.Dropped.{hand_same, held_is_box, held_loaded, shares_still}
+use Rattle.ft_table_calls.proofs.dropping.drop_value.Goals as goal
+use Rattle.ft_table_calls.proofs.dropping.drop_value.Goals.{After-read_word-kind, After-read_word-named}
+
+load_kind : (c : After-read_word-kind) → OnlyLoaded (view c.args.pass.now) (view c.read_word-kind.new.pass)
+load_kind c = loaded_by (ReadTable (table_id c.args.table) c.args.word c.read_word-kind.result) (view c.args.pass.now) (view c.read_word-kind.new.pass) tt c.read_word-kind.ensures.did.1
+
+kind_is : (c : After-read_word-kind) → c.read_word-kind.result ≡ slice_index (in_hand (table_id c.args.table) (view c.args.pass.now)) c.args.word
+kind_is c = c.read_word-kind.ensures.taken c.requires.out
+
+module _ (c : After-read_word-named) where
+  abbrev t : ℕ
+  t = table_id c.args.table
+
+  abbrev u : View
+  u = view c.args.pass.now
+
+  abbrev v : View
+  v = view c.read_word-kind.new.pass
+
+  abbrev w : View
+  w = view c.read_word-named.new.pass
+
+  first : OnlyLoaded u v
+  first = loaded_by (ReadTable t c.args.word c.read_word-kind.result) u v tt c.read_word-kind.ensures.did.1
+
+  loads : OnlyLoaded u w
+  loads = loaded_then u v w first (loaded_by (ReadTable t (c.args.word + 1) c.read_word-named.result) v w tt c.read_word-named.ensures.did.1)
+
+  named_is : c.read_word-named.result ≡ slice_index (in_hand (table_id c.args.table) (view c.args.pass.now)) (c.args.word + 1)
+  named_is =
+      c.read_word-named.ensures.taken (first.work.hands t ∙ c.requires.out)
+      ∙ ap (λ (l : List ℕ). slice_index l (c.args.word + 1)) (hand_same u v t first.work.pass.shape first.words)
+
+  four : slice_index (in_hand (table_id c.args.table) (view c.args.pass.now)) c.args.word ≡ 4
+  four = sym (c.read_word-kind.ensures.taken c.requires.out) ∙ c.if-kind-ne-BOX_KIND.false
+
+  held : 0 < references_held (shape_of c.args.bank.now) c.read_word-named.result (view c.read_word-named.new.pass).log
+  held =
+      let now = subst (λ (b : ℕ). 0 < references_held (shape_of c.args.bank.now) b u.log) (sym named_is) (c.requires.held four) in
+      subst (λ (n : ℕ). 0 < n) (sym (held_loaded (shape_of c.args.bank.now) u w c.requires.pass.1 loads c.read_word-named.result)) now
+
+  shared : SharesBoxes (view c.read_word-named.new.pass)
+  shared = shares_still u w loads.boxes.made c.requires.shared
+
+pub read_word-kind-requires-clause-word : goal.read_word-kind-requires-clause-word
+read_word-kind-requires-clause-word c = let n = c.requires.word in omega (arith, n)
+
+pub overflow_add-word : goal.overflow_add-word
+overflow_add-word c = let n = c.requires.word in let s = c.requires.start.1 in let l = c.args.bank.now.low in omega (arith, n, s, l)
+
+pub release-requires-clause-name : goal.release-requires-clause-name
+release-requires-clause-name c =
+    let d = (goal.at.release-requires-clause-name c).After-read_word-named in
+    let k = shape_of c.args.bank.now in
+    let w = view c.read_word-named.new.pass in
+    let shape : w.shape ≡ k = (loads d).work.pass.shape ∙ c.requires.pass.1 in
+    subst (λ (z : Shape). IsBoxName z c.read_word-named.result) shape
+    (held_is_box w c.read_word-named.result c.read_word-named.new.pass.possible (subst (λ (z : Shape). 0 < references_held z c.read_word-named.result w.log) (sym shape) (held d)))
+
+pub release-requires-clause-shared : goal.release-requires-clause-shared
+release-requires-clause-shared c = (shared (goal.at.release-requires-clause-shared c).After-read_word-named c.read_word-named.result).0
+
+pub release-requires-clause-held : goal.release-requires-clause-held
+release-requires-clause-held c = held (goal.at.release-requires-clause-held c).After-read_word-named
+
+pub release-requires-clause-none : goal.release-requires-clause-none
+release-requires-clause-none c = (shared (goal.at.release-requires-clause-none c).After-read_word-named c.read_word-named.result).1
+
+-- ---- a value in place
+
+pub returns-then-kind-ne-BOX_KIND-clause-only : goal.returns-then-kind-ne-BOX_KIND-clause-only
+returns-then-kind-ne-BOX_KIND-clause-only c =
+    loaded_boxed (view c.args.pass.now) (view c.read_word-kind.new.pass) (load_kind (goal.at.returns-then-kind-ne-BOX_KIND-clause-only c).After-read_word-kind)
+
+pub returns-then-kind-ne-BOX_KIND-clause-made : goal.returns-then-kind-ne-BOX_KIND-clause-made
+returns-then-kind-ne-BOX_KIND-clause-made c = (load_kind (goal.at.returns-then-kind-ne-BOX_KIND-clause-made c).After-read_word-kind).boxes.made
+
+pub returns-then-kind-ne-BOX_KIND-clause-references : goal.returns-then-kind-ne-BOX_KIND-clause-references
+returns-then-kind-ne-BOX_KIND-clause-references c b =
+    let d = (goal.at.returns-then-kind-ne-BOX_KIND-clause-references c).After-read_word-kind in
+    let hand = in_hand (table_id c.args.table) (view c.args.pass.now) in
+    let none = plain_names b (slice_index hand c.args.word) (slice_index hand (c.args.word + 1)) (λ z. c.if-kind-ne-BOX_KIND.true (kind_is d ∙ z)) in
+    let same = held_loaded (shape_of c.args.bank.now) (view c.args.pass.now) (view c.read_word-kind.new.pass) c.requires.pass.1 (load_kind d) b in
+    omega (arith, none, same)
+
+-- ---- a value in a box
+
+pub returns-clause-only : goal.returns-clause-only
+returns-clause-only c =
+    let d = (goal.at.returns-clause-only c).After-read_word-named in
+    boxed_then (view c.args.pass.now) (view c.read_word-named.new.pass) (view c.release.new.pass) (loaded_boxed (view c.args.pass.now) (view c.read_word-named.new.pass) (loads d)) c.release.ensures.only
+
+pub returns-clause-made : goal.returns-clause-made
+returns-clause-made c =
+    let d = (goal.at.returns-clause-made c).After-read_word-named in
+    made_then (view c.args.pass.now) (view c.read_word-named.new.pass) (view c.release.new.pass) (loads d).boxes.made c.release.ensures.made
+
+pub returns-clause-references : goal.returns-clause-references
+returns-clause-references c b =
+    let d = (goal.at.returns-clause-references c).After-read_word-named in
+    let k = shape_of c.args.bank.now in
+    let hand = in_hand (table_id c.args.table) (view c.args.pass.now) in
+    let same = held_loaded k (view c.args.pass.now) (view c.read_word-named.new.pass) c.requires.pass.1 (loads d) b in
+    let less = c.release.ensures.references b in
+    let names = boxed_names b (slice_index hand c.args.word) (slice_index hand (c.args.word + 1)) (four d) in
+    let other = other_way (slice_index hand (c.args.word + 1)) b in
+    let at = ap (λ (n : ℕ). names_box b 4 n) (named_is d) in
+    let one = boxed_names b 4 c.read_word-named.result refl in
+    let way = other_way c.read_word-named.result b in
+    let two = boxed_names b 4 (slice_index hand (c.args.word + 1)) refl in
+    omega (arith, same, less, names, other, at, one, way, two)

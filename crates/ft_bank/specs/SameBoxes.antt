@@ -22,11 +22,15 @@ pub record SameMade (v w : View) : Type 0 where
   pub places : (b : ℕ) → place_to_give b w.log ≡ place_to_give b v.log
   pub uses : (b : ℕ) → place_use b w.log ≡ place_use b v.log
 
--- What the pass has to do with its own boxes is settled as it was before: references that it dropped may have merged some
--- of them. It has taken no place. (PEP 703, "Biased Reference Counting")
+-- it has taken no place for a box
+abbrev pub TakesNoPlace : View → View → Type 0
+TakesNoPlace v w = (b : ℕ) → place_use b w.log ≡ use_taken → place_use b v.log ≡ use_taken
+
+-- What the pass has to do with its own boxes is settled where it was before: references that it dropped may have merged
+-- some of them. It has taken no place for a box. (PEP 703, "Biased Reference Counting")
 pub record StaysSettled (v w : View) : Type 0 where
   pub settled : IsSettled v.log → IsSettled w.log
-  pub stored : (b : ℕ) → place_use b w.log ≡ use_taken → place_use b v.log ≡ use_taken
+  pub places : TakesNoPlace v w
 
 -- what the pass knew of the value in a box it knows still
 abbrev pub KnowsBoxes : View → View → Type 0

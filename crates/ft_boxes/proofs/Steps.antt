@@ -19,7 +19,7 @@ use Rattle.ft_trace.proofs.Cases.{here, miss}
 use Rattle.ft_bank.specs.BoxSteps.{box_id}
 use Rattle.ft_bank.specs.SameBoxes.{KnowsBoxes, SameMade, SameReferences}
 use Rattle.ft_boxes.specs.References.{HoldsBox, HoldsOneMore, HoldsOneLess, KeepsValues, LeavesOthers}
-use Rattle.ft_boxes.specs.Settled.{IsSettled}
+use Rattle.ft_trace.specs.Boxes.{IsSettled}
 
 -- ---- other boxes
 

@@ -12,7 +12,7 @@ use Rattle.ft_bank.specs.SameBoxes.{HoldsFew}
 use Rattle.ft_boxes.specs.declared.held.Held.{Held}
 use Rattle.ft_boxes.specs.declared.held.Raised.{Raised}
 use Rattle.ft_boxes.specs.declared.held.Raised.TheVariants as raised
-use Rattle.ft_boxes.specs.Settled.{IsSettled}
+use Rattle.ft_trace.specs.Boxes.{IsSettled}
 
 -- the pass may hold so many references more for each box
 abbrev pub MayHoldMore : ℕ → View → Type 0
@@ -43,7 +43,7 @@ IfUp (raised.Moved first found) P = Unit {0}
 -- the pass is one of the bank's, and may raise a box and drop it
 pub record IsCounter (b : Bank) (p : Pass) : Type 0 where
   pub pass : IsPassOf b p
-  pub settled : IsSettled (view p)
+  pub settled : IsSettled (view p).log
   pub few : HoldsFew (view p)
 
 -- both passes are

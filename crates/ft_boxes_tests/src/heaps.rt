@@ -1,7 +1,7 @@
 //! A heap whose places are all taken, and a place that comes back once both passes have let its box go.
 ghost use Rattle.ft_bank.specs.Passes.{shape_of, view, IsPassOf};
 ghost use Rattle.ft_boxes.specs.References.{HoldsBox, box_of};
-ghost use Rattle.ft_boxes.specs.Settled.{IsSettled};
+ghost use Rattle.ft_trace.specs.Boxes.{IsSettled};
 ghost use Rattle.ft_boxes_tests.specs.Holdings.{HoldsUpTo, IfUp, MayHoldMore};
 
 use crate::banks::small;
@@ -14,10 +14,10 @@ use std::test::Fail;
 /// Makes boxes of an integer that are never let go, at most this many, and answers how many it made.
 fn fill(bank: &Bank, pass: &mut Pass, most: u32) -> u32
     requires pass { IsPassOf bank.now pass.old }
-    requires settled { IsSettled (view pass.old) }
+    requires settled { IsSettled (view pass.old).log }
     requires may { MayHoldMore most (view pass.old) }
     ensures pass { IsPassOf bank.now pass.new }
-    ensures settled { IsSettled (view pass.new) }
+    ensures settled { IsSettled (view pass.new).log }
     ensures more { HoldsUpTo most (view pass.old) (view pass.new) }
 {
     let mut made = 0;
@@ -37,7 +37,7 @@ fn fill(bank: &Bank, pass: &mut Pass, most: u32) -> u32
 /// references go. Says whether the heap was full in between, and had the one place again in the end.
 fn has_one_place(bank: &Bank, first: &mut Pass, second: &mut Pass) -> bool
     requires passes { IsPassOf bank.now first.old × IsPassOf bank.now second.old }
-    requires settled { IsSettled (view first.old) × IsSettled (view second.old) }
+    requires settled { IsSettled (view first.old).log × IsSettled (view second.old).log }
     requires may { MayHoldMore 1000 (view first.old) × MayHoldMore 1000 (view second.old) }
     ensures passes { IsPassOf bank.now first.new × IsPassOf bank.now second.new }
 {
@@ -57,7 +57,7 @@ fn has_one_place(bank: &Bank, first: &mut Pass, second: &mut Pass) -> bool
 /// Lets a reference go, if the raise gave one, and says whether it did.
 fn drop_raised(bank: &Bank, pass: &mut Pass, raised: Raised) -> bool
     requires pass { IsPassOf bank.now pass.old }
-    requires settled { IsSettled (view pass.old) }
+    requires settled { IsSettled (view pass.old).log }
     requires held { IfUp raised (λ held. HoldsBox (box_of held) (view pass.old)) }
     ensures pass { IsPassOf bank.now pass.new }
 {

@@ -3,7 +3,7 @@ ghost use Rattle.std.specs.Prelude.{◌≡◌, IfOk};
 ghost use Rattle.ft_bank.specs.BoxSteps.{IsBoxIn};
 ghost use Rattle.ft_bank.specs.Passes.{shape_of, view, IsPassOf};
 ghost use Rattle.ft_bank.specs.SameBoxes.{HoldsFew, SameReferences};
-ghost use Rattle.ft_boxes.specs.Settled.{IsSettled};
+ghost use Rattle.ft_trace.specs.Boxes.{IsSettled};
 ghost use Rattle.ft_boxes_tests.specs.Holdings.{AreCounters, AreNames, HoldsEach, IsCounter, MayHoldMore};
 
 use crate::banks::{four, small};
@@ -28,10 +28,10 @@ const FIRST: i64 = 1000;
 /// Makes ten boxes. Fewer where the heap is full.
 fn make_ten(alloc: Global, bank: &Bank, pass: &mut Pass) -> Result<Vec<Ref>, AllocError>
     requires pass { IsPassOf bank.now pass.old }
-    requires settled { IsSettled (view pass.old) }
+    requires settled { IsSettled (view pass.old).log }
     requires may { MayHoldMore 1000 (view pass.old) }
     ensures pass { IsPassOf bank.now pass.new }
-    ensures settled { IsSettled (view pass.new) }
+    ensures settled { IsSettled (view pass.new).log }
     ensures few { HoldsFew (view pass.new) }
     ensures held { IfOk result (λ boxes. HoldsEach boxes.items (view pass.new)) }
     ensures names { IfOk result (λ boxes. AreNames (shape_of bank.now) boxes.items) }

@@ -5,7 +5,7 @@ use Rattle.ft_bank.specs.PassSections.{stack_of}
 use Rattle.ft_bank.specs.SameBoxes.{SameReferences}
 use Rattle.ft_bank.specs.Whole.{OnlyBoxed}
 use Rattle.ft_boxes.specs.References.{KeepsValues}
-use Rattle.ft_boxes.specs.Settled.{IsSettled}
+use Rattle.ft_trace.specs.Boxes.{IsSettled}
 use Rattle.ft_boxes.proofs.merging.merge_all.Given as goal
 
 abbrev pub invariant-loop-place : goal.invariant-loop-place

@@ -1,6 +1,6 @@
 use Rattle.std.proofs.Common.{◌≤◌}
 use Rattle.ft_bank.specs.Passes.{view, IsPassOf}
-use Rattle.ft_boxes.specs.Settled.{IsSettled}
+use Rattle.ft_trace.specs.Boxes.{IsSettled}
 use Rattle.ft_boxes_tests.specs.Holdings.{HoldsUpTo}
 use Rattle.ft_boxes_tests.proofs.heaps.fill.Given as goal
 

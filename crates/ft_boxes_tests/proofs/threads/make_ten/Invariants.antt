@@ -1,5 +1,5 @@
 use Rattle.ft_bank.specs.Passes.{view, IsPassOf}
-use Rattle.ft_boxes.specs.Settled.{IsSettled}
+use Rattle.ft_trace.specs.Boxes.{IsSettled}
 use Rattle.ft_boxes_tests.specs.Holdings.{HoldsEach, HoldsUpTo}
 use Rattle.ft_boxes_tests.proofs.threads.make_ten.Given as goal
 

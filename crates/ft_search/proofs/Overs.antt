@@ -149,6 +149,10 @@ put_payload x word kind payload long = kept_payload (with_table x word kind) wor
 
 -- ---- references
 
+-- as many as before, in one shape
+pub held_same : (k : Shape) (v w : View) → v.shape ≡ k → w.shape ≡ k → SameReferences v w → (b : ℕ) → references_held k b w.log ≡ references_held k b v.log
+held_same k v w first then_ same b = ap (λ (z : Shape). references_held z b w.log) (sym then_) ∙ (same b ∙ ap (λ (z : Shape). references_held z b v.log) first)
+
 -- the pass holds one for a box that these words name
 named_own : (k : Shape) (v : View) (kind payload b : ℕ) → v.shape ≡ k → HasReferenceFor v kind payload → names_box b kind payload ≤ references_held k b v.log
 named_own k v kind payload b shape own =
@@ -201,7 +205,7 @@ module _ (k : Shape) (o : ℕ) (table : Table) (word kind payload : ℕ) (v r p 
   long_here = value_long k o table word r here_shape here_writes here_open
 
   same_here : (b : ℕ) → references_held k b r.log ≡ references_held k b v.log
-  same_here b = ap (λ (z : Shape). references_held z b r.log) (sym here_shape) ∙ (l.boxes.references b ∙ ap (λ (z : Shape). references_held z b v.log) shape)
+  same_here = held_same k v r shape here_shape l.boxes.references
 
   few_here : (b : ℕ) → references_held k b v.log < 2 ^ 31
   few_here b = subst (λ (z : Shape). references_held z b v.log < 2 ^ 31) shape (writes.few b)
@@ -223,7 +227,7 @@ module _ (k : Shape) (o : ℕ) (table : Table) (word kind payload : ℕ) (v r p 
     pub same_refs : SameReferences r p → (b : ℕ) → references_held k b p.log + names_box b kind payload ≡ references_held k b v.log
     same_refs same b =
         let none = plain_names b kind payload ne in
-        let there : references_held k b p.log ≡ references_held k b r.log = ap (λ (z : Shape). references_held z b p.log) (sym there_shape) ∙ (same b ∙ ap (λ (z : Shape). references_held z b r.log) here_shape) in
+        let there = held_same k r p here_shape there_shape same b in
         let now = same_here b in
         omega (arith, none, there, now)
 

@@ -14,6 +14,7 @@ use Rattle.ft_trace.specs.Holds.{held_words}
 use Rattle.ft_trace.specs.Kinds.{rows}
 use Rattle.ft_trace.specs.Pictures.{root_in}
 use Rattle.ft_bank.specs.declared.table.Table.{Table}
+use Rattle.ft_bank.specs.BoxSteps.{kind_read, payload_read, HasReferenceFor}
 use Rattle.ft_bank.specs.SameBoxes.{HoldsFew}
 use Rattle.ft_bank.specs.TableNames.{table_id, IsTableIn}
 use Rattle.ft_search.specs.declared.boxed.SeenValue.{SeenValue}
@@ -60,3 +61,11 @@ SeesKnown v payload seen =
     seen.boxed ≡ true → IsKnownBox v payload
     → (seen.kind ≡ known_box_word v.shape payload kind_word v.log)
     × (seen.value ≡ known_box_word v.shape payload payload_word v.log)
+
+-- A value for which the pass holds a reference where it names a box, and whose value the pass knows then, is so still, and
+-- reads the same.
+abbrev pub KeepsOwn : View → View → Type 0
+KeepsOwn v w =
+    (kind payload : ℕ) → HasReferenceFor v kind payload
+    → HasReferenceFor w kind payload × (kind_read w kind payload ≡ kind_read v kind payload)
+    × (payload_read w kind payload ≡ payload_read v kind payload)

@@ -217,10 +217,9 @@ returns-clause-root c =
 pub returns-clause-references : goal.returns-clause-references
 returns-clause-references c =
     let a = c.args in
-    let at = goal.at.returns-clause-references c in
-    let d = at.After-start_write in
-    let b = at.After-join_all in
     let v = view a.pass.now in
+    let s = view c.start_write.new.pass in
+    let j = view c.join_all.new.pass in
     let u = view c.thin_all.new.pass in
-    let th = c.thin_all.ensures.thinned (to b) (begins b (may d) (has d) (table_is d)) in
-    refs_then v u (view c.finish_entries.new.pass) (same_done (shape_of a.bank.now) v u c.requires.pass.1 c.thin_all.ensures.pass.1 c.requires.may.boxes th.midway.writes.boxes) c.finish_entries.ensures.references
+    let begun : SameReferences v s = λ b. ap (λ (z : View). references_held z.shape b z.log) c.start_write.ensures.1 in
+    refs_then v u (view c.finish_entries.new.pass) (refs_then v j u (refs_then v s j begun c.join_all.ensures.references) c.thin_all.ensures.references) c.finish_entries.ensures.references

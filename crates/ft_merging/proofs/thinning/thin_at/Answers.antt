@@ -111,6 +111,12 @@ returns-in_default-clause-thinned c to last low th =
     thinned_loaded (shape_of a.bank.now) a.s a.table a.kept others first to last (a.place + 1) v (view c.goes_at.new.pass) c.requires.pass.1 c.goes_at.ensures.only
     (thinned_stays (shape_of a.bank.now) a.s a.table a.kept others first to last a.place v c.requires.set th (λ key ok is. spared_stays a.kept others first key (c.goes_at.ensures.stays (none_goes c.goes_at.result c.in_default.not-Some) key ok is)))
 
+pub returns-in-Some-clause-references : goal.returns-in-Some-clause-references
+returns-in-Some-clause-references c b = c.put_deleted.ensures.references b ∙ c.goes_at.ensures.only.boxes.references b
+
+pub returns-in_default-clause-references : goal.returns-in_default-clause-references
+returns-in_default-clause-references c = c.goes_at.ensures.only.boxes.references
+
 pub returns-in-Some-clause-only : goal.returns-in-Some-clause-only
 returns-in-Some-clause-only c =
     let v = view c.args.pass.now in

@@ -20,7 +20,6 @@ use Rattle.ft_new_keys.proofs.FinishedKeys.{since_root}
 use Rattle.ft_new_keys.proofs.Grown.{filled_has, grow_filled, grown_wrote, knows_filled, same_filled, words_filled}
 use Rattle.ft_new_keys.proofs.Keyed.{counts_known}
 use Rattle.ft_new_keys.proofs.Placed.{refs_then}
-use Rattle.ft_search.proofs.Puts.{same_done}
 use Rattle.ft_merging.specs.Joining.{JoinsKeys, join_takes, joined}
 use Rattle.ft_merging.specs.Merging.{MayMerge}
 use Rattle.ft_merging.specs.Internal.JoiningSteps.{IsJoining}

@@ -8,11 +8,13 @@ use Rattle.ft_model.specs.Worlds.{set_of}
 use Rattle.ft_layout.specs.Containers.{IsSetWords}
 use Rattle.ft_keys.specs.declared.walk.Way.TheVariants as way
 use Rattle.ft_trace.specs.declared.View.{View}
+use Rattle.ft_trace.specs.Boxes.{references_held}
 use Rattle.ft_trace.specs.Addresses.{class_of}
 use Rattle.ft_trace.specs.Holds.{held_unboxed, known_state}
 use Rattle.ft_trace.specs.Kinds.{rows}
 use Rattle.ft_trace.specs.ContainerStates.{ContainerState}
 use Rattle.ft_bank.specs.Passes.{shape_of, view}
+use Rattle.ft_bank.specs.SameBoxes.{SameReferences}
 use Rattle.ft_bank.specs.TableNames.{table_id}
 use Rattle.ft_bank.specs.Whole.{OnlyWritten}
 use Rattle.ft_bank.proofs.TableAddresses.{class_is}
@@ -20,7 +22,7 @@ use Rattle.ft_bank.proofs.KnownAfterWrites.{work_knows, written_then}
 use Rattle.ft_search.specs.OneEntryWrites.{HasTable, KnowsEntries, MayWriteEntries}
 use Rattle.ft_search.proofs.Changing.{kind_is}
 use Rattle.ft_search.proofs.ReadyCommits.{whole_root, whole_write}
-use Rattle.ft_search.proofs.Puts.{same_done, table_class}
+use Rattle.ft_search.proofs.Puts.{table_class}
 use Rattle.ft_new_keys.specs.KeyGrowth.{keys_take}
 use Rattle.ft_new_keys.proofs.Keyed.{use_known}
 use Rattle.ft_new_keys.proofs.Placed.{refs_then, use_with}

@@ -21,7 +21,7 @@ pub record HasMade (b : Ref) (value : Value) (v w : View) : Type 0 where
   pub was : (IsOwn b v → ⊥) × (references_held v.shape (box_id b) v.log ≡ 0)
   pub own : IsOwn b w
   pub counted : local_count (box_id b) w.log ≡ 1
-  pub use : place_use (box_id b) w.log ≡ cond (place_use (box_id b) v.log == use_stored) use_stored use_taken
+  pub uses : place_use (box_id b) w.log ≡ cond (place_use (box_id b) v.log == use_stored) use_stored use_taken
   pub knows : KnowsValue b value w
   pub more : HoldsOneMore b v w
   pub others : LeavesOthers b v w

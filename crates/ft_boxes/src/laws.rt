@@ -1,9 +1,9 @@
 //! What holds of passes and their boxes between two calls.
 ghost use Rattle.std.specs.Prelude.{ℕ};
+ghost use Rattle.ft_trace.specs.Boxes.{IsSettled};
 ghost use Rattle.ft_bank.specs.NewPasses.{IsOpening};
 ghost use Rattle.ft_bank.specs.Passes.{view};
 ghost use Rattle.ft_bank.specs.SameBoxes.{HoldsFew};
-ghost use Rattle.ft_trace.specs.Boxes.{IsSettled};
 
 use ft_bank::{Bank, Pass};
 

@@ -5,6 +5,7 @@ ghost use Rattle.ft_layout.specs.declared.slot.Stored.TheVariants.{Plain};
 ghost use Rattle.ft_layout.specs.Words.{FitsStored};
 ghost use Rattle.ft_model.specs.declared.data.Value.TheVariants as values;
 ghost use Rattle.ft_trace.specs.Acts.{is_writing};
+ghost use Rattle.ft_trace.specs.Boxes.{IsSettled};
 ghost use Rattle.ft_bank.specs.BoxSteps.{IsBoxIn, IsMaking};
 ghost use Rattle.ft_bank.specs.Passes.{shape_of, view, IsPassOf};
 ghost use Rattle.ft_bank.specs.PassSections.{stack_of};
@@ -13,7 +14,6 @@ ghost use Rattle.ft_bank.specs.Whole.{OnlyBoxed};
 ghost use Rattle.ft_boxes.specs.Internal.Places.{FoundWordFull, HasFilled, HasTakenPlace};
 ghost use Rattle.ft_boxes.specs.Making.{FoundHeapFull, Makes};
 ghost use Rattle.ft_boxes.specs.References.{KeepsValues};
-ghost use Rattle.ft_trace.specs.Boxes.{IsSettled};
 
 use crate::held::{Held, Made};
 use ft_bank::{Bank, Pass};
@@ -30,8 +30,8 @@ const PAYLOAD: u64 = 2;
 const LOCAL: u64 = 3;
 
 /// Makes a box of a value that isn't `None`, at the first free place of the pass's own heap, while the pass writes no
-/// container: it holds the box's one reference. It loads the words of bits of the heap up to the first that has a free place, takes the place by one
-/// locked step, and puts four words.
+/// container: it holds the box's one reference. It loads the words of bits of the heap up to the first that has a free
+/// place, takes the place by one locked step, and puts four words.
 ///
 /// `HeapFull` comes only where each word of bits of the heap was 0 when this call loaded it, and no place was taken.
 pub fn make(bank: &Bank, pass: &mut Pass, value: Value) -> Made

@@ -1,6 +1,6 @@
 //! Boxes are merged: what their maker has counted alone goes to the shared count (PEP 703, "Biased Reference Counting").
 ghost use Rattle.std.specs.Prelude.{◌≡◌, ◌≢◌, ◌⊎◌, ℕ, ◌+◌, IsTrue, false};
-ghost use Rattle.ft_trace.specs.Boxes.{made_state, references_held, state_merged};
+ghost use Rattle.ft_trace.specs.Boxes.{made_state, state_merged, IsSettled};
 ghost use Rattle.ft_bank.specs.BoxSteps.{box_id, IsBoxIn, IsOwn, IsShared};
 ghost use Rattle.ft_bank.specs.Passes.{shape_of, view, IsPassOf};
 ghost use Rattle.ft_bank.specs.PassSections.{stack_of};
@@ -9,7 +9,6 @@ ghost use Rattle.ft_bank.specs.Whole.{OnlyBoxed, OnlyLoaded};
 ghost use Rattle.ft_boxes.specs.Internal.Merges.{HasTakenOut, IsSettledBut};
 ghost use Rattle.ft_boxes.specs.Merging.{FoundCounts, LeavesNoIdleBox, MergesAll, MergesIdleBoxes};
 ghost use Rattle.ft_boxes.specs.References.{KeepsValues, LeavesOthers};
-ghost use Rattle.ft_trace.specs.Boxes.{IsSettled};
 
 use ft_bank::{Bank, Pass};
 use ft_layout::Ref;
@@ -71,6 +70,7 @@ pub(crate) fn merge(bank: &Bank, pass: &mut Pass, b: Ref)
     ensures settled { IsSettled (view pass.new).log }
     ensures merged { made_state (box_id b) (view pass.new).log ≡ state_merged }
     ensures others { LeavesOthers b (view pass.old) (view pass.new) }
+    ensures places { TakesNoPlace (view pass.old) (view pass.new) }
     ensures same { SameReferences (view pass.old) (view pass.new) }
     ensures values { KeepsValues (view pass.old) (view pass.new) }
 {
@@ -117,6 +117,7 @@ fn merge_if_idle(bank: &Bank, pass: &mut Pass, b: Ref)
         (total : ℕ) × (total ≢ 0) × FoundCounts (box_id b) total (view pass.old) (view pass.new) }
     ensures merges { MergesIdleBoxes (view pass.old) (view pass.new) }
     ensures others { LeavesOthers b (view pass.old) (view pass.new) }
+    ensures places { TakesNoPlace (view pass.old) (view pass.new) }
 {
     if is_idle(bank, pass, b) {
         merge(bank, pass, b);
@@ -159,6 +160,7 @@ fn merge_own(bank: &Bank, pass: &mut Pass, b: Ref)
     ensures shared { IsShared b (view pass.new) }
     ensures was { IsShared b (view pass.old) → made_state (box_id b) (view pass.new).log ≡ made_state (box_id b) (view pass.old).log }
     ensures others { LeavesOthers b (view pass.old) (view pass.new) }
+    ensures places { TakesNoPlace (view pass.old) (view pass.new) }
 {
     if is_own(bank, pass, b) {
         merge(bank, pass, b);

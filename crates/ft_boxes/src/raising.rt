@@ -1,12 +1,12 @@
 //! The counts of boxes are raised.
 ghost use Rattle.std.specs.Prelude.{◌≡◌, IsTrue, false};
 ghost use Rattle.ft_trace.specs.Boxes.{KeepsBox, IsSettled};
+ghost use Rattle.ft_trace.specs.SeenBoxes.{SawBox};
 ghost use Rattle.ft_bank.specs.BoxSteps.{box_id, IsBoxIn, IsOwn, IsShared};
 ghost use Rattle.ft_bank.specs.Passes.{shape_of, view, IsPassOf};
 ghost use Rattle.ft_bank.specs.PassSections.{stack_of};
 ghost use Rattle.ft_bank.specs.SameBoxes.{HoldsFew, SameReferences, TakesNoPlace};
 ghost use Rattle.ft_bank.specs.Whole.{OnlyBoxed};
-ghost use Rattle.ft_trace.specs.SeenBoxes.{SawBox};
 ghost use Rattle.ft_boxes.specs.Raising.{Raises};
 ghost use Rattle.ft_boxes.specs.References.{HoldsOneMore, KeepsValues, LeavesOthers, box_of};
 

@@ -1,12 +1,12 @@
 //! References are dropped.
 ghost use Rattle.std.specs.Prelude.{◌≡◌};
+ghost use Rattle.ft_trace.specs.Boxes.{IsSettled};
 ghost use Rattle.ft_bank.specs.BoxSteps.{IsOwn, IsShared};
 ghost use Rattle.ft_bank.specs.Passes.{shape_of, view, IsPassOf};
 ghost use Rattle.ft_bank.specs.PassSections.{stack_of};
 ghost use Rattle.ft_bank.specs.SameBoxes.{TakesNoPlace};
 ghost use Rattle.ft_bank.specs.Whole.{OnlyBoxed};
 ghost use Rattle.ft_boxes.specs.References.{HoldsBox, HoldsOneLess, KeepsValues, LeavesNoTaken, LeavesOthers, box_of};
-ghost use Rattle.ft_trace.specs.Boxes.{IsSettled};
 
 use crate::held::Held;
 use crate::merging::{is_own, merge};

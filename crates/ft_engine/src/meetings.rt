@@ -19,6 +19,7 @@ use crate::caller::Caller;
 use crate::engine::Engine;
 use crate::resting::RestingCaller;
 use ft_bank::Note;
+use ft_boxes::merge_all;
 
 impl Engine {
     /// Makes a note of how many writes the caller has seen, and of the calls that it was answered.
@@ -92,12 +93,13 @@ impl Engine {
             thread_of other ≡ suc (thread_of caller.old + length (taken_of caller.old)) → WereOnline caller.new }
     {
         let Caller {
-            pass,
+            mut pass,
             cursors: _,
             calls: _,
             made: _,
             flight: _,
         } = other;
+        merge_all(&self.bank, &mut pass);
         self.bank.join(&mut caller.pass, pass);
     }
 }

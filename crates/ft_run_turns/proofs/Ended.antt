@@ -6,6 +6,7 @@ use Rattle.ft_model.specs.declared.entry.Entry.{Entry}
 use Rattle.ft_model.specs.declared.script.ScriptParts.{ScriptParts}
 use Rattle.ft_model.specs.Histories.{calls_of}
 use Rattle.ft_model.specs.Scripts.{IsScript}
+use Rattle.ft_trace.specs.Boxes.{HasMergedBoxes}
 use Rattle.ft_trace.specs.declared.View.{View}
 use Rattle.ft_trace.specs.Acts.{announces}
 use Rattle.ft_bank.specs.Passes.{view}
@@ -81,6 +82,7 @@ end_rest e script i s rule is all =
       idle = is.rests.flight ∙ done.idle;
       sections = ap (λ (z : Stack). z.sections) is.rests.sections ∙ done.sections;
       offline = ap (λ (z : View). announces z.log) is.rests.pass ∙ done.offline;
+      merged = subst (λ (z : View). HasMergedBoxes z.log) (sym is.rests.pass) (is.between.done all).3;
     }
 
 pub end_next : (e : Engine) (script : ScriptParts) (c : Caller) (lists : List (List Entry)) (s : Seat) → HasTakenIn e script c lists → IsSeatOf e script (length lists) s → (rests_in s.caller).next ≡ 0

@@ -73,10 +73,30 @@ fn set_box(
     let plain = Stored::Plain(value);
     if old == plain {
         release(bank, pass, held);
-        return set_item(bank, pass, l, table, place, value, plain, called, &Reply::Done);
+        return set_item(
+            bank,
+            pass,
+            l,
+            table,
+            place,
+            value,
+            plain,
+            called,
+            &Reply::Done,
+        );
     }
     let stored = Stored::Boxed(keep(bank, pass, held));
-    set_item(bank, pass, l, table, place, value, stored, called, &Reply::Done)
+    set_item(
+        bank,
+        pass,
+        l,
+        table,
+        place,
+        value,
+        stored,
+        called,
+        &Reply::Done,
+    )
 }
 
 /// `l[i] = v`, under the lock, where `v` stands in a box for which the pass holds the one reference.

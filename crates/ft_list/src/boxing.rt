@@ -1,6 +1,6 @@
 //! Calls that put a value in a list which stands in a box that the caller made: the reference that the pass holds is the
 //! list's then. Where the list has the value already, or the call raises an exception, the reference is dropped.
-ghost use Rattle.std.specs.Prelude.{◌≡◌, ◌≢◌, ℕ, ℤ, ◌<◌, true, false, length, Some, None, slice_set};
+ghost use Rattle.std.specs.Prelude.{◌≡◌, ◌≢◌, ◌↔◌, IsTrue, ℕ, ℤ, ◌<◌, true, false, length, Some, None, slice_set};
 ghost use Rattle.ft_model.specs.Boxings.{is_boxed};
 ghost use Rattle.ft_model.specs.Lists.{index_in};
 ghost use Rattle.ft_model.specs.declared.call.Call.TheVariants as call;
@@ -44,6 +44,16 @@ fn table_in(bank: &Bank, pass: &mut Pass, l: Object) -> Table
     }
 }
 
+/// Whether what an item stores is this value.
+fn is_value(stored: Stored, value: Value) -> bool
+    ensures { IsTrue result ↔ (stored ≡ Plain value) }
+{
+    match stored {
+        Stored::Plain(found) => found == value,
+        Stored::Empty | Stored::Boxed(_) => false,
+    }
+}
+
 /// Has the item at a place store the value in the box, as the write of this call. An item that has the value already is
 /// left alone, and the reference is dropped. Answers the number of the write.
 fn set_box(
@@ -70,13 +80,33 @@ fn set_box(
     ensures wrote { WroteHeld (shape_of bank.now) l called.now result (view pass.old) (view pass.new) }
 {
     let old = read_stored(bank, pass, l, table, place);
-    let plain = Stored::Plain(value);
-    if old == plain {
+    if is_value(old, value) {
         release(bank, pass, held);
-        return set_item(bank, pass, l, table, place, value, plain, called, &Reply::Done);
+        let plain = Stored::Plain(value);
+        return set_item(
+            bank,
+            pass,
+            l,
+            table,
+            place,
+            value,
+            plain,
+            called,
+            &Reply::Done,
+        );
     }
     let stored = Stored::Boxed(keep(bank, pass, held));
-    set_item(bank, pass, l, table, place, value, stored, called, &Reply::Done)
+    set_item(
+        bank,
+        pass,
+        l,
+        table,
+        place,
+        value,
+        stored,
+        called,
+        &Reply::Done,
+    )
 }
 
 /// `l[i] = v`, under the lock, where `v` stands in a box for which the pass holds the one reference.

@@ -95,8 +95,7 @@ keeps_put v w o t i x is same kind payload own =
     let a = own four in
     let held : 0 < references_held v.shape payload (PutTable o t i x ∷ v.log) = subst (λ (n : ℕ). 0 < n) (sym (now payload)) a.0 in
     let kept = kept_held v.shape payload (PutTable o t i x ∷ v.log) held in
-    (held, sure_after v.shape payload 1 (PutTable o t i x) v.log kept a.1, sure_after v.shape payload 2 (PutTable o t i x) v.log kept a.2) in
-    (
+    (held, sure_after v.shape payload 1 (PutTable o t i x) v.log kept a.1, sure_after v.shape payload 2 (PutTable o t i x) v.log kept a.2) in (
       subst (λ (z : View). HasReferenceFor z kind payload) (sym is) mine,
       ap (λ (z : View). kind_read z kind payload) is,
       ap (λ (z : View). payload_read z kind payload) is,
@@ -109,8 +108,7 @@ keeps_begun v w o f is kind payload own =
     let mine : HasReferenceFor begun kind payload = λ four.
     let a = own four in
     let kept = kept_held v.shape payload (StartWrite o f ∷ v.log) a.0 in
-    (a.0, sure_after v.shape payload 1 (StartWrite o f) v.log kept a.1, sure_after v.shape payload 2 (StartWrite o f) v.log kept a.2) in
-    (
+    (a.0, sure_after v.shape payload 1 (StartWrite o f) v.log kept a.1, sure_after v.shape payload 2 (StartWrite o f) v.log kept a.2) in (
       subst (λ (z : View). HasReferenceFor z kind payload) (sym is) mine,
       ap (λ (z : View). kind_read z kind payload) is,
       ap (λ (z : View). payload_read z kind payload) is,

@@ -55,19 +55,18 @@ stores_then c stored has =
     let at : changes a.called.now ≡ a.o = list_changes a.o call_is.0 a.called.now call_is.1 call_is.2.write.changing in
     let is_kind : kind_in u.shape.starts a.o ≡ kind.List = ap (λ (z : Shape). kind_in z.starts a.o) e.pass.1 ∙ e.list.kind in
     let low : a.place < slots (class_of (table_id a.table)) = let f = c.begin.ensures.few in let p = c.requires.place in omega (arith, f, p) in
-    let old : MayHave v stored = earlier_has k a.o a.table v s u d.0 c.requires.may d.1.1 e.only stored has in
-    (
+    let old : MayHave v stored = earlier_has k a.o a.table v s u d.0 c.requires.may d.1.1 e.only stored has in (
       (λ b taken.
-      let was = before b taken in
-      let names = box_named b (stored_kind a.stored) (stored_payload a.stored) (c.requires.stores.named b was) in
-      let raw = e.boxed names.0 in (
-        subst (λ (n : ℕ). named_in_container u.shape b n (mem u.shape u.log) ≢ 0) (sym at) (item_named u a.o (table_id a.table) a.place b is_kind e.list.root low (raw.0 ∙ names.0) (raw.1 ∙ names.1)),
-        c.requires.stores.boxing b was stored old,
-      )),
+          let was = before b taken in
+          let names = box_named b (stored_kind a.stored) (stored_payload a.stored) (c.requires.stores.named b was) in
+          let raw = e.boxed names.0 in (
+            subst (λ (n : ℕ). named_in_container u.shape b n (mem u.shape u.log) ≢ 0) (sym at) (item_named u a.o (table_id a.table) a.place b is_kind e.list.root low (raw.0 ∙ names.0) (raw.1 ∙ names.1)),
+            c.requires.stores.boxing b was stored old,
+          )),
       (λ b n one two.
-      let first = box_named b (stored_kind a.stored) (stored_payload a.stored) (c.requires.stores.named b (before b one)) in
-      let second = box_named n (stored_kind a.stored) (stored_payload a.stored) (c.requires.stores.named n (before n two)) in
-      sym first.1 ∙ second.1),
+          let first = box_named b (stored_kind a.stored) (stored_payload a.stored) (c.requires.stores.named b (before b one)) in
+          let second = box_named n (stored_kind a.stored) (stored_payload a.stored) (c.requires.stores.named n (before n two)) in
+          sym first.1 ∙ second.1),
     )
 
 pub put_item-requires-clause-place : goal.put_item-requires-clause-place

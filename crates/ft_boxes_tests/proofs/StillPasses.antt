@@ -157,7 +157,7 @@ loaded_may b p q may pass stack only =
     ((done_same (view p) (view q) only.boxes still.boxes).settled) ((done_same (view p) (view q) only.boxes still.boxes).none)
 
 -- going online
-entered : (v : View) (m n : ℕ) → View
+abbrev entered : (v : View) (m n : ℕ) → View
 entered v m n = view_after (Announce m n) (view_after (WriteNumber n) v)
 
 entered_still : (v : View) (m n : ℕ) → IsStill v → IsStill (entered v m n)

@@ -3,5 +3,7 @@
 #![tactic(auto)]
 
 mod seeing;
+mod storing;
 
 pub use crate::seeing::see_name;
+pub use crate::storing::{clear, overwrite, store_boxes};

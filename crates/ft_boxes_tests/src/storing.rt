@@ -1,6 +1,6 @@
 //! Boxes that a pass stores in the items of the one list of a bank: small integers fill the list first, which stand in
 //! place, and each is set to an integer then that stands in a box.
-ghost use Rattle.std.specs.Prelude.{◌≡◌, ◌<◌, ◌×◌, true, IsTrue, IfSome};
+ghost use Rattle.std.specs.Prelude.{◌≡◌, ◌<◌, IsTrue, IfSome};
 ghost use Rattle.ft_model.specs.declared.script.Kind.TheVariants as kind;
 ghost use Rattle.ft_bank.specs.Passes.{shape_of};
 ghost use Rattle.ft_section.specs.declared.answers.Step.TheVariants as steps;

@@ -1,5 +1,5 @@
 -- That the loads of an item between two equal even versions have read the name of a box there.
-use Rattle.std.proofs.Common.{◌≡◌, ℕ, suc, ◌%◌, ◌<◌, List, [], ◌∷◌, ◌++◌, Option, Some, None, refl, sym, ap, ◌∙◌, subst, inl, arith}
+use Rattle.std.proofs.Common.{◌≡◌, ℕ, suc, ◌%◌, ◌<◌, List, [], ◌∷◌, ◌++◌, Option, Some, None, sym, ◌∙◌, subst, inl, arith}
 use Rattle.std.specs.Prelude.{IfSome}
 use Rattle.ft_layout.specs.declared.slot.Ref.{Ref}
 use Rattle.ft_model.specs.declared.script.Kind.{Kind}

@@ -1,11 +1,10 @@
 -- A pass that may try calls may still try them once it has loaded words, gone online, or counted references that it let go
 -- again.
-use Rattle.std.proofs.Common.{◌≡◌, ◌⊎◌, ℕ, ◌<◌, true, false, List, [], ◌∷◌, refl, sym, ap, ◌∙◌, subst, inl, inr, ⊎_elim, arith}
+use Rattle.std.proofs.Common.{◌≡◌, ◌⊎◌, ℕ, ◌<◌, true, false, sym, ap, ◌∙◌, subst, inl, inr, ⊎_elim, arith}
 use mathlib.Core.Logic.{dite}
 use native.Mathlib.Decide.{ℕ_discrete}
 use Rattle.ft_model.specs.declared.call.Call.{Call}
 use Rattle.ft_model.specs.declared.reply.Reply.{Reply}
-use Rattle.ft_trace.specs.declared.Act.{Act}
 use Rattle.ft_trace.specs.declared.Act.TheVariants.{Announce, Answer, WriteNumber}
 use Rattle.ft_trace.specs.declared.Shape.{Shape}
 use Rattle.ft_trace.specs.declared.View.{View}
@@ -28,9 +27,9 @@ use Rattle.ft_boxes.proofs.TakenBoxes.{settled_done}
 use Rattle.ft_section.specs.declared.answers.Objects.{Objects}
 use Rattle.ft_section.specs.declared.answers.Objects.TheVariants.{One}
 use Rattle.ft_section.specs.LockTakings.{IsOwnFor, lower_of, upper_of}
-use Rattle.ft_section.specs.Ready.{AreSuspended, HasTop, InCall, IsInCall, IsReady, IsStill, IsWaiting, MayTry}
+use Rattle.ft_section.specs.Ready.{AreSuspended, HasTop, InCall, IsInCall, IsReady, IsStill, IsWaiting}
 use Rattle.ft_section.proofs.MidstOfCall.{in_call_stays}
-use Rattle.ft_boxes_tests.specs.Counters.{IsCounter, MayTryAny}
+use Rattle.ft_boxes_tests.specs.Counters.{MayTryAny}
 
 -- ---- in the midst of nothing, whatever it has to do with boxes
 

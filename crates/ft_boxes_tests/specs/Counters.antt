@@ -1,5 +1,5 @@
 -- What the passes of a test may do: try calls on the one list, store boxes in it, and count references.
-use Rattle.std.specs.Prelude.{◌≡◌, ℕ, ◌<◌, [], ◌∷◌, true}
+use Rattle.std.specs.Prelude.{◌≡◌, ◌<◌, [], ◌∷◌, true}
 use Rattle.ft_model.specs.declared.script.Kind.TheVariants as kind
 use Rattle.ft_model.specs.Worlds.{start_as}
 use Rattle.ft_trace.specs.Acts.{announces, has_lock}

@@ -1,5 +1,4 @@
 use Rattle.std.proofs.Common.{◌∙◌}
-use Rattle.ft_bank.specs.Passes.{view}
 use Rattle.ft_boxes_tests.proofs.Stores.{storing_on, storing_still}
 use Rattle.ft_boxes_tests.proofs.storing.store_at.Goals as goal
 

@@ -32,8 +32,8 @@ use Rattle.ft_section.specs.Ready.{IsStill}
 use Rattle.ft_section.specs.Trying.{SectionsAfter}
 use Rattle.ft_section.proofs.MidstOfCall.{making_stays}
 use Rattle.ft_list.specs.HeldValues.{MadeHeld}
-use Rattle.ft_boxes_tests.specs.Counters.{IsStoring, MayTryAny}
-use Rattle.ft_boxes_tests.proofs.StillPasses.{IsQuiet, KeepsSections, answered_quiet, boxed_quiet, boxed_sections, quiet_still, sections_then, still_quiet, wrote_quiet}
+use Rattle.ft_boxes_tests.specs.Counters.{IsStoring, IsCaller}
+use Rattle.ft_boxes_tests.proofs.StillPasses.{IsQuiet, KeepsSections, answered_quiet, boxed_quiet, boxed_sections, caller, quiet_still, sections_then, still_quiet, wrote_quiet}
 
 -- ---- the bank
 
@@ -47,8 +47,8 @@ unit_low false = omega arith
 -- ---- calls under locks
 
 -- after a call that was made any other may be tried
-pub may_again : (b : Bank) (objects : Objects) (p q : Pass) (asked : Step) (made : Reply × Stamp) → SectionsAfter b objects p q asked → asked ≡ step.Done made.0 made.1 → MayTryAny b q
-may_again b objects p q asked made after is = (subst (SectionsAfter b objects p q) is after).0.may
+pub may_again : (b : Bank) (objects : Objects) (p q : Pass) (asked : Step) (made : Reply × Stamp) → SectionsAfter b objects p q asked → asked ≡ step.Done made.0 made.1 → IsCaller b q
+may_again b objects p q asked made after is = caller b q ((subst (SectionsAfter b objects p q) is after).0.may)
 
 -- ---- the pass makes a box
 

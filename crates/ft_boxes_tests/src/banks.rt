@@ -3,7 +3,7 @@ ghost use Rattle.std.specs.Prelude.{◌≡◌, [], ◌∷◌, IfOk};
 ghost use Rattle.ft_model.specs.declared.script.Kind.TheVariants.{List};
 ghost use Rattle.ft_bank.specs.NewPasses.{IsOpening, AreOpening};
 ghost use Rattle.ft_bank.specs.Passes.{shape_of};
-ghost use Rattle.ft_boxes_tests.specs.Counters.{HasOneList, MayTryAny};
+ghost use Rattle.ft_boxes_tests.specs.Counters.{HasOneList, IsCaller};
 
 use ft_bank::{Bank, Pass, Shape};
 use ft_bank_tests::{bank_of, small_shape};
@@ -52,13 +52,13 @@ fn four(bank: &Bank, passes: Vec<Pass>) -> Result<(Pass, Pass, Pass, Pass), Fail
 }
 
 /// A new bank, whose passes are ready for their first calls.
-pub(crate) fn ready(alloc: Global) -> Result<Ready, Fail>
+pub(crate) fn ready_bank(alloc: Global) -> Result<Ready, Fail>
     ensures list { IfOk result (λ r. HasOneList r.bank) }
     ensures places { IfOk result (λ r. ((shape_of r.bank).passes ≡ 4) × ((shape_of r.bank).heap ≡ 64)) }
-    ensures first { IfOk result (λ r. MayTryAny r.bank r.first) }
-    ensures second { IfOk result (λ r. MayTryAny r.bank r.second) }
-    ensures third { IfOk result (λ r. MayTryAny r.bank r.third) }
-    ensures fourth { IfOk result (λ r. MayTryAny r.bank r.fourth) }
+    ensures first { IfOk result (λ r. IsCaller r.bank r.first) }
+    ensures second { IfOk result (λ r. IsCaller r.bank r.second) }
+    ensures third { IfOk result (λ r. IsCaller r.bank r.third) }
+    ensures fourth { IfOk result (λ r. IsCaller r.bank r.fourth) }
 {
     let (bank, passes) = bank_of(alloc, small(alloc)?)?;
     let (first, second, third, fourth) = four(&bank, passes)?;

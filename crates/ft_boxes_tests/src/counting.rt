@@ -3,7 +3,7 @@ ghost use Rattle.std.specs.Prelude.{IfSome};
 ghost use Rattle.ft_trace.specs.SeenBoxes.{SawBox};
 ghost use Rattle.ft_bank.specs.BoxSteps.{box_id, IsBoxIn};
 ghost use Rattle.ft_bank.specs.Passes.{shape_of, view};
-ghost use Rattle.ft_boxes_tests.specs.Counters.{HasOneList, IsCounter, MayTryAny};
+ghost use Rattle.ft_boxes_tests.specs.Counters.{HasOneList, IsCaller, IsCounter};
 
 use crate::seeing::see_name;
 use crate::storing::is_list;
@@ -13,7 +13,7 @@ use ft_qsbr::enter;
 
 /// Goes online, so that the pass may look at items without their lock.
 pub fn go_online(bank: &Bank, pass: &mut Pass)
-    requires { MayTryAny bank.now pass.old }
+    requires { IsCaller bank.now pass.old }
     ensures { IsCounter bank.now pass.new }
 {
     enter(bank, pass);

@@ -3,9 +3,9 @@ ghost use Rattle.std.specs.Prelude.{IfSome};
 ghost use Rattle.ft_trace.specs.Boxes.{IsSettled};
 ghost use Rattle.ft_bank.specs.Passes.{view, IsPassOf};
 ghost use Rattle.ft_boxes.specs.References.{HoldsBox, box_of};
-ghost use Rattle.ft_boxes_tests.specs.Counters.{HasOneList, IsCounter, MayTryAny};
+ghost use Rattle.ft_boxes_tests.specs.Counters.{HasOneList, IsCaller, IsCounter};
 
-use crate::banks::{Ready, ready};
+use crate::banks::{Ready, ready_bank};
 use crate::counting::{find_box, go_online};
 use crate::storing::{overwrite, store_boxes};
 use ft_bank::{Bank, Pass};
@@ -15,8 +15,8 @@ use std::test::Fail;
 
 /// Makes a box of a string and lets it go again, if the pass's heap has a place for it. Says whether it had.
 fn can_make(bank: &Bank, pass: &mut Pass) -> bool
-    requires { MayTryAny bank.now pass.old }
-    ensures { MayTryAny bank.now pass.new }
+    requires { IsCaller bank.now pass.old }
+    ensures { IsCaller bank.now pass.new }
 {
     match make(bank, pass, Value::Text(Sym(7))) {
         Made::Up(held) => {
@@ -50,7 +50,7 @@ fn a_place_comes_back_once_both_passes_let_go(rt: HostRuntime) -> Result<(), Fai
         mut second,
         third: _,
         mut fourth,
-    } = ready(rt.alloc())?;
+    } = ready_bank(rt.alloc())?;
     if !store_boxes(&bank, &mut first, 64) {
         return Err(Fail::from("the first heap has 64 places"));
     }
@@ -62,6 +62,7 @@ fn a_place_comes_back_once_both_passes_let_go(rt: HostRuntime) -> Result<(), Fai
     };
     // The first pass drops the list's reference, the last that it counted itself.
     if !overwrite(&bank, &mut first, 63) {
+        release(&bank, &mut second, held);
         return Err(Fail::from("nobody else calls"));
     }
     assert_eq!(rt; bank.read_free_places(&mut fourth, 0, 0), 0);

@@ -1,13 +1,13 @@
 //! A raise beside a merge, and a shared count below 0: the steps of passes on one box that a list has, in the orders in
 //! which they may fall (PEP 703, "Biased Reference Counting").
-ghost use Rattle.std.specs.Prelude.{◌≡◌, ◌≢◌, ◌+◌, ◌-◌, ◌<◌, ◌^◌, IfOk, IfSome, IsTrue};
+ghost use Rattle.std.specs.Prelude.{◌≡◌, ◌≢◌, ◌+◌, ◌-◌, ◌<◌, ◌^◌, IfOk, OnOk, IfSome, IsTrue};
 ghost use Rattle.ft_trace.specs.SeenBoxes.{SawBox};
 ghost use Rattle.ft_bank.specs.BoxSteps.{box_id, IsBoxIn};
 ghost use Rattle.ft_bank.specs.Passes.{shape_of, view, IsPassOf};
-ghost use Rattle.ft_boxes_tests.specs.Counters.{HasOneList, IsCounter, MayTryAny};
+ghost use Rattle.ft_boxes_tests.specs.Counters.{HasOneList, IsCaller, IsCounter};
 ghost use Rattle.ft_boxes_tests.specs.OneBox.{OwnsBox, SharesBox};
 
-use crate::banks::{Ready, ready};
+use crate::banks::{Ready, ready_bank};
 use crate::counting::{find_box, go_online};
 use crate::storing::{overwrite, store_boxes};
 use ft_bank::{Bank, Pass};
@@ -28,7 +28,7 @@ const DEAD: u64 = 3;
 
 /// Whether the pass made the box, which is in the default state, and has this local count.
 fn is_counted(bank: &Bank, pass: &mut Pass, b: Ref, count: u64) -> bool
-    requires may { MayTryAny bank.now pass.old }
+    requires may { IsCaller bank.now pass.old }
     requires name { IsBoxIn (shape_of bank.now) b }
     ensures pass { IsPassOf bank.now pass.new }
     ensures own { IsTrue result → OwnsBox (shape_of bank.now) b count 0 (view pass.new).log }
@@ -132,8 +132,8 @@ fn drop_one(bank: &Bank, pass: &mut Pass, b: Ref, count: u64) -> u64
 /// The first pass stores a box in the one item of the list, where the second sees its name.
 fn store_and_see(bank: &Bank, first: &mut Pass, second: &mut Pass) -> Result<Ref, Fail>
     requires list { HasOneList bank.now }
-    requires may { MayTryAny bank.now first.old × MayTryAny bank.now second.old }
-    ensures passes { IsPassOf bank.now first.new × IsPassOf bank.now second.new }
+    requires may { IsCaller bank.now first.old × IsCaller bank.now second.old }
+    ensures passes { OnOk result (IsPassOf bank.now first.new × IsPassOf bank.now second.new) }
     ensures own { IfOk result (λ b. OwnsBox (shape_of bank.now) b 1 0 (view first.new).log) }
     ensures shared { IfOk result (λ b. SharesBox (shape_of bank.now) b 0 (view second.new).log) }
 {
@@ -158,7 +158,7 @@ fn a_merge_before_the_exchange_leaves_the_raise_undone(rt: HostRuntime) -> Resul
         mut second,
         mut third,
         mut fourth,
-    } = ready(rt.alloc())?;
+    } = ready_bank(rt.alloc())?;
     let b = store_and_see(&bank, &mut first, &mut second)?;
     assert_eq!(rt; read_word(&bank, &mut second, b, 0, SHARED), 0);
     begin_merge(&bank, &mut first, b, 1);
@@ -184,7 +184,7 @@ fn a_raise_within_a_merge_is_counted(rt: HostRuntime) -> Result<(), Fail> {
         mut second,
         mut third,
         mut fourth,
-    } = ready(rt.alloc())?;
+    } = ready_bank(rt.alloc())?;
     let b = store_and_see(&bank, &mut first, &mut second)?;
     assert_eq!(rt; read_word(&bank, &mut second, b, 0, LOCAL), 1);
     begin_merge(&bank, &mut first, b, 1);
@@ -213,7 +213,7 @@ fn a_shared_count_below_0_is_merged(rt: HostRuntime) -> Result<(), Fail> {
         mut second,
         third: _,
         mut fourth,
-    } = ready(rt.alloc())?;
+    } = ready_bank(rt.alloc())?;
     if !store_boxes(&bank, &mut first, 1) {
         return Err(Fail::from("the first heap is free"));
     }

@@ -1,9 +1,9 @@
 //! Four passes in a thread each raise and drop the boxes of ten items of a list, over and over.
 ghost use Rattle.std.specs.Prelude.{◌≡◌};
 ghost use Rattle.ft_bank.specs.Passes.{shape_of};
-ghost use Rattle.ft_boxes_tests.specs.Counters.{AreCounters, HasOneList, IsCounter, MayTryAny};
+ghost use Rattle.ft_boxes_tests.specs.Counters.{AreCounters, HasOneList, IsCaller, IsCounter};
 
-use crate::banks::{Ready, ready};
+use crate::banks::{Ready, ready_bank};
 use crate::counting::{find_box, go_online};
 use crate::storing::{FIRST, clear, store_boxes};
 use ft_bank::{Bank, Pass};
@@ -119,8 +119,8 @@ fn work_in_four<R: Threads + Sync>(
 /// The bits of the first pass's heap, of which one is set for each free place.
 fn free_places(bank: &Bank, pass: &mut Pass) -> u64
     requires places { ((shape_of bank.now).passes ≡ 4) × ((shape_of bank.now).heap ≡ 64) }
-    requires may { MayTryAny bank.now pass.old }
-    ensures may { MayTryAny bank.now pass.new }
+    requires may { IsCaller bank.now pass.old }
+    ensures may { IsCaller bank.now pass.new }
 {
     bank.read_free_places(pass, 0, 0)
 }
@@ -133,7 +133,7 @@ fn ten_boxes_are_counted_by_four_passes(rt: HostRuntime) -> Result<(), Fail> {
         mut second,
         mut third,
         mut fourth,
-    } = ready(rt.alloc())?;
+    } = ready_bank(rt.alloc())?;
     if !store_boxes(&bank, &mut first, BOXES) {
         return Err(Fail::from("the first heap has 64 places"));
     }

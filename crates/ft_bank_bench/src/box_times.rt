@@ -4,6 +4,7 @@ use crate::bare_steps;
 use crate::bare_steps::zeros;
 use crate::box_steps::{Boxes, make_all, make_boxes, raise_all};
 use crate::times::{Time, time_of_one};
+use ft_boxes_tests::find_box;
 use std::alloc::Global;
 use std::io;
 use std::time::Clock;
@@ -32,16 +33,18 @@ pub(crate) fn measure_boxes<R: Clock>(
         bank,
         mut maker,
         mut other,
-        at,
     } = made;
+    // Each pass sees the name of the box once.
+    let Some(own) = find_box(&bank, &mut maker, 0) else {
+        return Ok(None);
+    };
+    let Some(seen) = find_box(&bank, &mut other, 0) else {
+        return Ok(None);
+    };
     let (table, mut seat) = zeros(alloc)?;
     let words = &table.shared;
-    let makings = Time {
-        bank: time_of_one!(rt, make_all(&bank, &mut maker, rounds)),
-        bare: time_of_one!(rt, bare_steps::make_all(words, &mut seat, rounds), rounds),
-    };
     let raises = Time {
-        bank: time_of_one!(rt, raise_all(&bank, &mut maker, at, rounds)),
+        bank: time_of_one!(rt, raise_all(&bank, &mut maker, own, rounds)),
         bare: time_of_one!(
             rt,
             bare_steps::raise_own_all(words, &mut seat, rounds),
@@ -49,12 +52,16 @@ pub(crate) fn measure_boxes<R: Clock>(
         ),
     };
     let shared_raises = Time {
-        bank: time_of_one!(rt, raise_all(&bank, &mut other, at, rounds)),
+        bank: time_of_one!(rt, raise_all(&bank, &mut other, seen, rounds)),
         bare: time_of_one!(
             rt,
             bare_steps::raise_shared_all(words, &mut seat, rounds),
             rounds
         ),
+    };
+    let makings = Time {
+        bank: time_of_one!(rt, make_all(&bank, &mut maker, rounds)),
+        bare: time_of_one!(rt, bare_steps::make_all(words, &mut seat, rounds), rounds),
     };
     Ok(Some(BoxTimes {
         makings,

@@ -11,7 +11,7 @@ ghost use Rattle.ft_bank_bench.specs.Counting.{MayCount};
 use ft_bank::{Bank, Pass, Shape};
 use ft_bank_tests::small_shape;
 use ft_boxes::{Made, Raised, make, raise, release};
-use ft_boxes_tests::{go_online, store_boxes};
+use ft_boxes_tests::{find_box, go_online, store_boxes};
 use ft_layout::Ref;
 use ft_model::{Kind, Value};
 use ft_section::new_passes_are_ready;
@@ -68,6 +68,21 @@ pub fn make_boxes(alloc: Global) -> Result<Option<Boxes>, AllocError>
     go_online(&bank, &mut maker);
     go_online(&bank, &mut other);
     Ok(Some(Boxes { bank, maker, other }))
+}
+
+/// The names of the list's box that each of the passes reads; nothing where one reads none.
+pub fn see_box(bank: &Bank, maker: &mut Pass, other: &mut Pass) -> Option<(Ref, Ref)>
+    requires list { HasOneList bank.now }
+    requires passes { IsCounter bank.now maker.old × IsCounter bank.now other.old }
+    ensures maker { MayCount bank.now maker.new }
+    ensures other { MayCount bank.now other.new }
+    ensures names { IfSome result (λ n. IsBoxIn (shape_of bank.now) n.0 × IsBoxIn (shape_of bank.now) n.1) }
+    ensures own { IfSome result (λ n. SawBox (shape_of bank.now) (box_id n.0) (view maker.new).log) }
+    ensures seen { IfSome result (λ n. SawBox (shape_of bank.now) (box_id n.1) (view other.new).log) }
+{
+    let own = find_box(bank, maker, 0);
+    let seen = find_box(bank, other, 0);
+    Some((own?, seen?))
 }
 
 /// Makes a box and drops it. Says whether there was a place.

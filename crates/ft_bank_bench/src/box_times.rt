@@ -2,9 +2,8 @@
 
 use crate::bare_steps;
 use crate::bare_steps::zeros;
-use crate::box_steps::{Boxes, make_all, make_boxes, raise_all};
+use crate::box_steps::{Boxes, make_all, make_boxes, raise_all, see_box};
 use crate::times::{Time, time_of_one};
-use ft_boxes_tests::find_box;
 use std::alloc::Global;
 use std::io;
 use std::time::Clock;
@@ -34,11 +33,7 @@ pub(crate) fn measure_boxes<R: Clock>(
         mut maker,
         mut other,
     } = made;
-    // Each pass sees the name of the box once.
-    let Some(own) = find_box(&bank, &mut maker, 0) else {
-        return Ok(None);
-    };
-    let Some(seen) = find_box(&bank, &mut other, 0) else {
+    let Some((own, seen)) = see_box(&bank, &mut maker, &mut other) else {
         return Ok(None);
     };
     let (table, mut seat) = zeros(alloc)?;

@@ -24,7 +24,7 @@ sit-seat-requires-in-loop-other-clause-caller c =
     let steps : into_iter_items at.other-iterator ≡ c.in-Some.other ∷ into_iter_items c.next.new.self = c.in-Some.ensures.steps.0 in
     let rest = (subst (AreNewFrom e n) steps at.invariant.3).0 in
     let woken = c.wake-caller in
-    subst (λ k. IsNewCaller e k woken.result) (sym (c.len-in-loop-other.ensures ∙ at.seats.ok.0)) (new_as e n rest.caller woken.result rest.new (woken.ensures.same rest.caller rest.rests) woken.ensures.caller)
+    subst (λ k. IsNewCaller e k woken.result) (sym (c.len-in-loop-other.ensures ∙ at.seats.ok.0)) (new_as e n rest.caller woken.result rest.new (woken.ensures.same rest.caller rest.new.member.caller rest.rests) woken.ensures.caller)
 
 pub loop-other-init : goal.loop-other-init
 loop-other-init c =

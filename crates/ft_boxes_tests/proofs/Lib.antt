@@ -1,3 +1,4 @@
 pub mod SeenItems
+pub mod SharedBoxes
 pub mod StillPasses
 pub mod Stores

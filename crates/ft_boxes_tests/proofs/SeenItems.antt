@@ -1,5 +1,7 @@
 -- That the loads of an item between two equal even versions have read the name of a box there.
-use Rattle.std.proofs.Common.{◌≡◌, ℕ, suc, ◌%◌, ◌<◌, List, [], ◌∷◌, ◌++◌, refl, sym, ap, ◌∙◌, subst, inl, arith}
+use Rattle.std.proofs.Common.{◌≡◌, ℕ, suc, ◌%◌, ◌<◌, List, [], ◌∷◌, ◌++◌, Option, Some, None, sym, ◌∙◌, subst, inl, arith}
+use Rattle.std.specs.Prelude.{IfSome}
+use Rattle.ft_layout.specs.declared.slot.Ref.{Ref}
 use Rattle.ft_model.specs.declared.script.Kind.{Kind}
 use Rattle.ft_model.specs.declared.script.Kind.TheVariants as kind
 use Rattle.ft_trace.specs.declared.Act.{Act}
@@ -13,7 +15,12 @@ use Rattle.ft_trace.specs.LoggedLookUps.{IsReadAsBox}
 use Rattle.ft_trace.specs.Pictures.{item_offset}
 use Rattle.ft_trace.specs.SeenBoxes.{SawBox}
 use Rattle.ft_bank.specs.declared.pass.Pass.{Pass}
+use Rattle.ft_bank.specs.BoxSteps.{box_id}
+use Rattle.ft_bank.specs.Passes.{view, Did}
 use Rattle.ft_bank.specs.Series.{DidAll}
+use Rattle.ft_bank.specs.Whole.{OnlyLoaded}
+use Rattle.ft_bank.proofs.KnownAfterWrites.{loaded_by, loaded_then}
+use Rattle.ft_search.proofs.Rounding.{looks_did}
 use Rattle.ft_search.proofs.Running.{did_trans}
 use Rattle.ft_boxes_tests.specs.declared.seeing.SeenItem.{SeenItem}
 use Rattle.ft_boxes_tests.specs.Seeing.{item_acts}
@@ -27,6 +34,17 @@ seen_did t index seen p q1 q2 q3 q4 a b c d =
     did_trans (ReadTable t (item_offset index 0) seen.closed ∷ []) l3 p q3 q4
     (did_trans (ReadTable t (item_offset index 2) seen.payload ∷ []) l2 p q2 q3
     (did_trans (ReadTable t (item_offset index 1) seen.kind ∷ []) l1 p q1 q2 a b) c) d
+
+-- they are loads and nothing else
+pub seen_only : (t index : ℕ) (seen : SeenItem) (p q : Pass) → DidAll (item_acts t index seen) p q → OnlyLoaded (view p) (view q)
+seen_only t index seen p q did = looks_did (item_acts t index seen) p q tt did
+
+-- after a load of a root
+pub root_loaded : (o f : ℕ) (p q : Pass) → Did (ReadRoot o f) p q → OnlyLoaded (view p) (view q)
+root_loaded o f p q did = loaded_by (ReadRoot o f) (view p) (view q) tt did.1
+
+pub root_then : (o f : ℕ) (p q r : Pass) → Did (ReadRoot o f) p q → OnlyLoaded (view q) (view r) → OnlyLoaded (view p) (view r)
+root_then o f p q r did then_ = loaded_then (view p) (view q) (view r) (root_loaded o f p q did) then_
 
 module _ (k : Shape) (o t index : ℕ) (seen : SeenItem) where
   abbrev mid : List Act
@@ -58,3 +76,8 @@ module _ (k : Shape) (o t index : ℕ) (seen : SeenItem) where
         online = (tt, tt);
         names = subst (λ (z : Kind). IsReadAsBox t (value_at z (class_of t) index) (suc (value_at z (class_of t) index)) b mid) (sym is_list) (subst (λ (n : ℕ). IsReadAsBox t (item_offset index 1) (suc (item_offset index 1)) n mid) (sym is) (names_as four));
       })
+
+  -- of the box that the payload names, if the bank has its place
+  pub seen_saws : (found : Option Ref) (log rest : List Act) → o < container_count k → kind_in k.starts o ≡ kind.List → index < slots (class_of t) → seen.closed ≡ seen.opened → seen.opened % 2 ≡ 0 → seen.kind ≡ 4 → IfSome found (λ (b : Ref). box_id b ≡ seen.payload) → log ≡ item_acts t index seen ++ ReadRoot o (suc t) ∷ rest → IfSome found (λ (b : Ref). SawBox k (box_id b) log)
+  seen_saws None log rest inside is_list low same even four is did = tt
+  seen_saws (Some b) log rest inside is_list low same even four is did = seen_saw (box_id b) log rest inside is_list low same even four is did

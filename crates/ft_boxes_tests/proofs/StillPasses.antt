@@ -1,11 +1,10 @@
 -- A pass that may try calls may still try them once it has loaded words, gone online, or counted references that it let go
 -- again.
-use Rattle.std.proofs.Common.{◌≡◌, ◌⊎◌, ℕ, ◌<◌, true, false, List, [], ◌∷◌, refl, sym, ap, ◌∙◌, subst, inl, inr, ⊎_elim, arith}
+use Rattle.std.proofs.Common.{◌≡◌, ◌⊎◌, ℕ, ◌<◌, true, false, sym, ap, ◌∙◌, subst, inl, inr, ⊎_elim, arith}
 use mathlib.Core.Logic.{dite}
 use native.Mathlib.Decide.{ℕ_discrete}
 use Rattle.ft_model.specs.declared.call.Call.{Call}
 use Rattle.ft_model.specs.declared.reply.Reply.{Reply}
-use Rattle.ft_trace.specs.declared.Act.{Act}
 use Rattle.ft_trace.specs.declared.Act.TheVariants.{Announce, Answer, WriteNumber}
 use Rattle.ft_trace.specs.declared.Shape.{Shape}
 use Rattle.ft_trace.specs.declared.View.{View}
@@ -20,17 +19,19 @@ use Rattle.ft_bank.specs.declared.bank.Bank.{Bank}
 use Rattle.ft_bank.specs.declared.pass.Pass.{Pass}
 use Rattle.ft_bank.specs.Passes.{view, IsPassOf}
 use Rattle.ft_bank.specs.PassSections.{Stack, stack_of}
-use Rattle.ft_bank.specs.SameBoxes.{HoldsFew}
+use Rattle.ft_bank.specs.SameBoxes.{HoldsFew, SameReferences}
 use Rattle.ft_bank.specs.Whole.{OnlyBoxed, OnlyLoaded, Wrote}
 use Rattle.ft_bank.proofs.DoneBoxes.{done_same}
-use Rattle.ft_bank.proofs.KnownAfterWrites.{loaded_boxed, work_knows}
+use Rattle.ft_bank.proofs.KnownAfterWrites.{boxed_then, loaded_boxed, work_knows}
+use Rattle.ft_layout.specs.declared.slot.Ref.{Ref}
+use Rattle.ft_boxes.specs.References.{HoldsOneLess, HoldsOneMore}
 use Rattle.ft_boxes.proofs.TakenBoxes.{settled_done}
 use Rattle.ft_section.specs.declared.answers.Objects.{Objects}
 use Rattle.ft_section.specs.declared.answers.Objects.TheVariants.{One}
 use Rattle.ft_section.specs.LockTakings.{IsOwnFor, lower_of, upper_of}
-use Rattle.ft_section.specs.Ready.{AreSuspended, HasTop, InCall, IsInCall, IsReady, IsStill, IsWaiting, MayTry}
+use Rattle.ft_section.specs.Ready.{AreSuspended, HasTop, InCall, IsInCall, IsReady, IsStill, IsWaiting}
 use Rattle.ft_section.proofs.MidstOfCall.{in_call_stays}
-use Rattle.ft_boxes_tests.specs.Counters.{IsCounter, MayTryAny}
+use Rattle.ft_boxes_tests.specs.Counters.{IsCaller, IsCounter, MayTryAny}
 
 -- ---- in the midst of nothing, whatever it has to do with boxes
 
@@ -142,29 +143,50 @@ may_still b p may = (may_inside b p may).1.still
 pub may_few : (b : Bank) (p : Pass) → MayTryAny b p → HoldsFew (view p)
 may_few b p may c = let none = (may_still b p may).boxes.none c in omega (arith, none)
 
+pub caller : (b : Bank) (p : Pass) → MayTryAny b p → IsCaller b p
+caller b p may =
+    let still = may_still b p may in
+    record { pass = may_pass b p may; settled = still.boxes.settled; few = may_few b p may; idle = still.even; may = may }
+
 -- ---- after steps
 
 -- steps with boxes after which it holds no reference, and what it has to do with its own boxes is settled
-pub boxed_may : (b : Bank) (p q : Pass) → MayTryAny b p → IsPassOf b q → stack_of q ≡ stack_of p → OnlyBoxed (view p) (view q) → IsSettled (view q).log → ((c : ℕ) → references_held (view q).shape c (view q).log ≡ 0) → MayTryAny b q
-boxed_may b p q may pass stack only settled none =
-    let quiet = boxed_quiet (view p) (view q) only (still_quiet (view p) (may_still b p may)) in
-    may_stay b p q pass stack (boxed_sections (view p) (view q) only) (quiet_still (view q) quiet (settled_done (view q) q.possible settled quiet.even none)) may
+pub boxed_calls : (b : Bank) (p q : Pass) → IsCaller b p → IsPassOf b q → stack_of q ≡ stack_of p → OnlyBoxed (view p) (view q) → IsSettled (view q).log → ((c : ℕ) → references_held (view q).shape c (view q).log ≡ 0) → IsCaller b q
+boxed_calls b p q was pass stack only settled none =
+    let quiet = boxed_quiet (view p) (view q) only (still_quiet (view p) (may_still b p was.may)) in
+    caller b q (may_stay b p q pass stack (boxed_sections (view p) (view q) only) (quiet_still (view q) quiet (settled_done (view q) q.possible settled quiet.even none)) was.may)
 
-pub loaded_may : (b : Bank) (p q : Pass) → MayTryAny b p → IsPassOf b q → stack_of q ≡ stack_of p → OnlyLoaded (view p) (view q) → MayTryAny b q
-loaded_may b p q may pass stack only =
-    let still = may_still b p may in
-    boxed_may b p q may pass stack (loaded_boxed (view p) (view q) only)
-    ((done_same (view p) (view q) only.boxes still.boxes).settled) ((done_same (view p) (view q) only.boxes still.boxes).none)
+pub loaded_calls : (b : Bank) (p q : Pass) → IsCaller b p → IsPassOf b q → stack_of q ≡ stack_of p → OnlyLoaded (view p) (view q) → IsCaller b q
+loaded_calls b p q was pass stack only =
+    let done = done_same (view p) (view q) only.boxes (may_still b p was.may).boxes in
+    boxed_calls b p q was pass stack (loaded_boxed (view p) (view q) only) done.settled done.none
+
+-- and such after which it holds as many as before
+pub same_calls : (b : Bank) (p q : Pass) → IsCaller b p → IsPassOf b q → stack_of q ≡ stack_of p → OnlyBoxed (view p) (view q) → IsSettled (view q).log → SameReferences (view p) (view q) → IsCaller b q
+same_calls b p q was pass stack only settled same = boxed_calls b p q was pass stack only settled (λ c. same c ∙ (may_still b p was.may).boxes.none c)
+
+-- it got a reference and let it go again
+pub counted_calls : (b : Bank) (p q r : Pass) (box gone : Ref) → IsCaller b p → IsPassOf b r → stack_of q ≡ stack_of p → stack_of r ≡ stack_of q → OnlyBoxed (view p) (view q) → OnlyBoxed (view q) (view r) → HoldsOneMore box (view p) (view q) → gone ≡ box → HoldsOneLess gone (view q) (view r) → IsSettled (view r).log → IsCaller b r
+counted_calls b p q r box gone was pass first then_ more_boxed less_boxed more is less settled =
+    same_calls b p r was pass (then_ ∙ first) (boxed_then (view p) (view q) (view r) more_boxed less_boxed) settled
+    (λ c.
+    let m = more c in
+    let l = subst (λ (z : Ref). HoldsOneLess z (view q) (view r)) is less c in
+    omega (arith, m, l))
+
+-- it is online still
+pub counter_by : (b : Bank) (p q : Pass) → IsCounter b p → OnlyBoxed (view p) (view q) → IsCaller b q → IsCounter b q
+counter_by b p q was only is = record { caller = is; online = subst (λ (n : ℕ). 0 < n) (sym only.work.pass.announced) was.online }
 
 -- going online
-entered : (v : View) (m n : ℕ) → View
+abbrev entered : (v : View) (m n : ℕ) → View
 entered v m n = view_after (Announce m n) (view_after (WriteNumber n) v)
 
 entered_still : (v : View) (m n : ℕ) → IsStill v → IsStill (entered v m n)
 entered_still v m n s = record { even = s.even; hands = s.hands; used = s.used; owes = s.owes; flight = s.flight; boxes = record { settled = record { unmade = s.boxes.settled.unmade; counted = s.boxes.settled.counted; whole = s.boxes.settled.whole; given = s.boxes.settled.given }; none = s.boxes.none; stored = s.boxes.stored }; stands = s.stands }
 
-pub entered_may : (b : Bank) (p q : Pass) (m n : ℕ) → MayTryAny b p → IsPassOf b q → stack_of q ≡ stack_of p → view q ≡ view_after (Announce m n) (view_after (WriteNumber n) (view p)) → MayTryAny b q
-entered_may b p q m n may pass stack did =
-    may_stay b p q pass stack
+pub entered_calls : (b : Bank) (p q : Pass) (m n : ℕ) → IsCaller b p → IsPassOf b q → stack_of q ≡ stack_of p → view q ≡ view_after (Announce m n) (view_after (WriteNumber n) (view p)) → IsCaller b q
+entered_calls b p q m n was pass stack did =
+    caller b q (may_stay b p q pass stack
     (record { shape = ap (λ (z : View). z.shape) did; locks = λ o. ap (λ (z : View). has_lock o z.log) did; begun = ap (λ (z : View). begun z.log) did })
-    (subst IsStill (sym did) (entered_still (view p) m n (may_still b p may))) may
+    (subst IsStill (sym did) (entered_still (view p) m n (may_still b p was.may))) was.may)

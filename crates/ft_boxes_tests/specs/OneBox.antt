@@ -1,5 +1,5 @@
 -- What two passes have to do with a box that an item of a list has, over its merge to its end.
-use Rattle.std.specs.Prelude.{◌≡◌, ◌≢◌, ℕ, ◌+◌, List}
+use Rattle.std.specs.Prelude.{◌≡◌, ◌≢◌, ℕ, List}
 use Rattle.ft_layout.specs.declared.slot.Ref.{Ref}
 use Rattle.ft_trace.specs.declared.Act.{Act}
 use Rattle.ft_trace.specs.declared.Shape.{Shape}

@@ -61,6 +61,7 @@ fn see_item(bank: &Bank, pass: &mut Pass, table: Table, index: u64) -> SeenItem
     requires index { index < slots (class_of (table_id table)) }
     ensures pass { IsPassOf bank.now pass.new }
     ensures did { DidAll (item_acts (table_id table) index result) pass.old pass.new }
+    ensures only { OnlyLoaded (view pass.old) (view pass.new) }
 {
     let start = bank.cell_of(table);
     let opened = load_word(bank, pass, table, start, index, item_word::VERSION);

@@ -1,12 +1,12 @@
 //! Boxes that a pass stores in the items of the one list of a bank: small integers fill the list first, which stand in
 //! place, and each is set to an integer then that stands in a box.
-ghost use Rattle.std.specs.Prelude.{◌≡◌, ◌<◌, ◌×◌, true, IsTrue, IfSome};
+ghost use Rattle.std.specs.Prelude.{◌≡◌, ◌<◌, IsTrue, IfSome};
 ghost use Rattle.ft_model.specs.declared.script.Kind.TheVariants as kind;
 ghost use Rattle.ft_bank.specs.Passes.{shape_of};
 ghost use Rattle.ft_section.specs.declared.answers.Step.TheVariants as steps;
 ghost use Rattle.ft_trace.specs.Addresses.{container_count};
 ghost use Rattle.ft_trace.specs.ContainerStates.{kind_in};
-ghost use Rattle.ft_boxes_tests.specs.Counters.{HasOneList, IsStoring, MayTryAny};
+ghost use Rattle.ft_boxes_tests.specs.Counters.{HasOneList, IsCaller, IsStoring};
 
 use ft_bank::{Bank, Pass};
 use ft_boxes::{Made, make};
@@ -39,8 +39,8 @@ fn made(step: Step) -> Option<(Reply, Stamp)>
 /// Appends an integer to the list. Says whether that was done.
 fn append(bank: &Bank, pass: &mut Pass, integer: i64) -> bool
     requires list { HasOneList bank.now }
-    requires may { MayTryAny bank.now pass.old }
-    ensures may { IsTrue result → MayTryAny bank.now pass.new }
+    requires may { IsCaller bank.now pass.old }
+    ensures may { IsTrue result → IsCaller bank.now pass.new }
 {
     is_list(bank);
     if pass.left() == 0 {
@@ -55,8 +55,8 @@ fn append(bank: &Bank, pass: &mut Pass, integer: i64) -> bool
 /// Gives the empty list the integers from 0, this many.
 fn fill(bank: &Bank, pass: &mut Pass, count: u32) -> bool
     requires list { HasOneList bank.now }
-    requires may { MayTryAny bank.now pass.old }
-    ensures may { IsTrue result → MayTryAny bank.now pass.new }
+    requires may { IsCaller bank.now pass.old }
+    ensures may { IsTrue result → IsCaller bank.now pass.new }
 {
     for index in 0..count {
         if !append(bank, pass, i64::from(index)) {
@@ -70,8 +70,8 @@ fn fill(bank: &Bank, pass: &mut Pass, count: u32) -> bool
 /// whether that was done.
 pub fn overwrite(bank: &Bank, pass: &mut Pass, index: u32) -> bool
     requires list { HasOneList bank.now }
-    requires may { MayTryAny bank.now pass.old }
-    ensures may { IsTrue result → MayTryAny bank.now pass.new }
+    requires may { IsCaller bank.now pass.old }
+    ensures may { IsTrue result → IsCaller bank.now pass.new }
 {
     is_list(bank);
     if pass.left() == 0 {
@@ -86,8 +86,8 @@ pub fn overwrite(bank: &Bank, pass: &mut Pass, index: u32) -> bool
 /// Clears the list. Says whether that was done.
 pub fn clear(bank: &Bank, pass: &mut Pass) -> bool
     requires list { HasOneList bank.now }
-    requires may { MayTryAny bank.now pass.old }
-    ensures may { IsTrue result → MayTryAny bank.now pass.new }
+    requires may { IsCaller bank.now pass.old }
+    ensures may { IsTrue result → IsCaller bank.now pass.new }
 {
     is_list(bank);
     if pass.left() == 0 {
@@ -124,7 +124,7 @@ fn store_at(bank: &Bank, pass: &mut Pass, index: u32) -> bool
 fn store_each(bank: &Bank, pass: &mut Pass, count: u32) -> bool
     requires list { HasOneList bank.now }
     requires storing { IsStoring bank.now pass.old }
-    ensures may { MayTryAny bank.now pass.new }
+    ensures may { IsCaller bank.now pass.new }
 {
     let mut all = true;
     for index in 0..count {
@@ -139,7 +139,7 @@ fn store_each(bank: &Bank, pass: &mut Pass, count: u32) -> bool
 /// Takes the lock of the list. Says whether the pass has it.
 fn take_list(bank: &Bank, pass: &mut Pass) -> bool
     requires list { HasOneList bank.now }
-    requires may { MayTryAny bank.now pass.old }
+    requires may { IsCaller bank.now pass.old }
     ensures storing { IsTrue result → IsStoring bank.now pass.new }
 {
     is_list(bank);
@@ -149,8 +149,8 @@ fn take_list(bank: &Bank, pass: &mut Pass) -> bool
 /// Fills the empty list with this many boxes, which the pass makes. Says whether that was done.
 pub fn store_boxes(bank: &Bank, pass: &mut Pass, count: u32) -> bool
     requires list { HasOneList bank.now }
-    requires may { MayTryAny bank.now pass.old }
-    ensures may { IsTrue result → MayTryAny bank.now pass.new }
+    requires may { IsCaller bank.now pass.old }
+    ensures may { IsTrue result → IsCaller bank.now pass.new }
 {
     if !fill(bank, pass, count) || !take_list(bank, pass) {
         return false;

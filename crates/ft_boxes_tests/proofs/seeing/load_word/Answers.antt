@@ -1,10 +1,5 @@
-use Rattle.std.proofs.Common.{◌≡◌, ℕ, ◌<◌, [], ◌∷◌, sym, subst, arith}
-use Rattle.ft_trace.specs.declared.Act.TheVariants.{ReadTable}
-use Rattle.ft_trace.specs.Addresses.{class_of, size}
-use Rattle.ft_trace.specs.Pictures.{item_offset}
+use Rattle.std.proofs.Common.{arith}
 use Rattle.ft_bank.specs.Passes.{shape_of}
-use Rattle.ft_bank.specs.Series.{DidAll}
-use Rattle.ft_bank.specs.TableNames.{table_id}
 use Rattle.ft_list.proofs.Cares.{few_slots, inside}
 use Rattle.ft_boxes_tests.proofs.seeing.load_word.Goals as goal
 
@@ -13,3 +8,9 @@ item_at-requires-clause-place c =
     let f = few_slots (shape_of c.args.bank.now) c.args.table c.requires.table in
     let low = c.requires.index in
     omega (arith, f, low)
+
+pub read_word-requires-clause-word : goal.read_word-requires-clause-word
+read_word-requires-clause-word c =
+    let i = inside (shape_of c.args.bank.now) c.args.table c.requires.table c.args.index c.args.word c.requires.index c.requires.word in
+    let is = c.item_at.ensures in
+    omega (arith, i, is)

@@ -141,8 +141,7 @@ fn ten_boxes_are_counted_by_four_passes(rt: HostRuntime) -> Result<(), Fail> {
     go_online(&bank, &mut second);
     go_online(&bank, &mut third);
     go_online(&bank, &mut fourth);
-    let (mut first, wrong) =
-        work_in_four(&rt, &bank, (first, second), (third, fourth), ROUNDS);
+    let (mut first, wrong) = work_in_four(&rt, &bank, (first, second), (third, fourth), ROUNDS);
     assert_eq!(rt; wrong, 0);
     // The list has each box still.
     assert_eq!(rt; free_places(&bank, &mut first), u64::MAX - 1023);

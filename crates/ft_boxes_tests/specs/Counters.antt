@@ -8,9 +8,6 @@ use Rattle.ft_bank.specs.declared.bank.Bank.{Bank}
 use Rattle.ft_bank.specs.declared.pass.Pass.{Pass}
 use Rattle.ft_bank.specs.Passes.{shape_of, view, IsPassOf}
 use Rattle.ft_bank.specs.SameBoxes.{HoldsFew}
-use Rattle.ft_boxes.specs.declared.held.Held.{Held}
-use Rattle.ft_boxes.specs.declared.held.Raised.{Raised}
-use Rattle.ft_boxes.specs.declared.held.Raised.TheVariants as raised
 use Rattle.ft_section.specs.declared.answers.Objects.{Objects}
 use Rattle.ft_section.specs.Ready.{IsMaking, MayTry}
 
@@ -43,9 +40,3 @@ AreCounters b p = IsCounter b p.0 × IsCounter b p.1
 pub record IsStoring (b : Bank) (p : Pass) : Type 0 where
   pub making : IsMaking b p
   pub locked : has_lock 0 (view p).log ≡ true
-
--- what holds of the reference that a raise gave, if it gave one
-abbrev pub IfUp : Raised → (Held → Type 0) → Type 0
-IfUp (raised.Up held) P = P held
-IfUp raised.Dead P = Unit {0}
-IfUp (raised.Moved first found) P = Unit {0}

@@ -1,1 +1,3 @@
-pub mod Holdings
+pub mod SeenItems
+pub mod StillPasses
+pub mod Stores

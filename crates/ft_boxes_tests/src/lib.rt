@@ -1,12 +1,7 @@
-//! Boxes of the passes of one bank: made, counted by both counts, merged and given back, in one thread and in four.
-//! Nothing stands on this crate.
+//! Boxes of the passes of one bank: made, counted by both counts, merged and given back, in one thread and in four. What
+//! `ft_bank_bench` begins with stands here too.
 #![tactic(auto)]
 
-#[cfg(test)]
-mod banks;
-#[cfg(test)]
-mod heaps;
-#[cfg(test)]
-mod merges;
-#[cfg(test)]
-mod threads;
+mod seeing;
+
+pub use crate::seeing::see_name;

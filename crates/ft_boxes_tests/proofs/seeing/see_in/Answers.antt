@@ -1,0 +1,1 @@
+use Rattle.ft_boxes_tests.proofs.seeing.see_in.Goals as goal

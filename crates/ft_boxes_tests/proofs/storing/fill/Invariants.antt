@@ -1,0 +1,5 @@
+use Rattle.ft_boxes_tests.specs.Counters.{MayTryAny}
+use Rattle.ft_boxes_tests.proofs.storing.fill.Given as goal
+
+abbrev pub invariant-loop-index : goal.invariant-loop-index
+invariant-loop-index l = record { may : MayTryAny l.bank l.pass }

@@ -1,13 +1,15 @@
 -- That the steps on boxes may be made, and what they find.
-use Rattle.std.proofs.Common.{◌≡◌, ◌≢◌, ◌⊎◌, ℕ, suc, ◌+◌, ◌*◌, ◌/◌, ◌%◌, ◌^◌, ◌<◌, ◌≤◌, true, List, refl, sym, ap, ◌∙◌, subst, arith}
+use Rattle.std.proofs.Common.{◌≡◌, ◌≢◌, ◌⊎◌, ℕ, suc, ◌+◌, ◌*◌, ◌/◌, ◌%◌, ◌^◌, ◌<◌, ◌≤◌, true, false, List, refl, sym, ap, ◌∙◌, subst, arith}
 use Rattle.ft_trace.specs.declared.Act.TheVariants.{ReadFreePlaces, TakePlace, PutBox, PublishBox, ReadBox, RaiseLocal, DropLocal, ClearLocal, MergeCounts, RaiseShared, RaiseKept, DropShared, GivePlace}
 use Rattle.ft_trace.specs.declared.Shape.{Shape}
 use Rattle.ft_trace.specs.declared.View.{View}
+use Rattle.ft_trace.specs.Acts.{is_writing}
 use Rattle.ft_trace.specs.Addresses.{box_word, maker_of, place_bit_of, IsBoxName}
 use Rattle.ft_trace.specs.Bits.{bit}
 use Rattle.ft_trace.specs.Boxes.{made_state, local_count, taken_out, place_to_give, references_held, known_box_word, knows_box_word, HasPutValue, KeepsBox}
 use Rattle.ft_trace.specs.BoxTraces.{box_state, has_in_default, maker_part}
 use Rattle.ft_trace.specs.Entries.{total}
+use Rattle.ft_trace.specs.SeenBoxes.{SawBox}
 use Rattle.ft_trace.specs.Traces.{run, word, Ready, ReadyAs}
 use mathlib.Core.Logic.{dite}
 use native.Mathlib.Decide.{ℕ_discrete}
@@ -32,8 +34,8 @@ module _ (k : Shape) (v : View) (j b : ℕ) (same : v.shape ≡ k) (is : IsBoxNa
   held_of : 0 < references_held k b v.log → 0 < references_held v.shape b v.log
   held_of held = subst (λ (z : Shape). 0 < references_held z b v.log) (sym same) held
 
-  pub take_ready : v.number ≡ suc (maker_of b) → made_state b v.log ≢ 1 → made_state b v.log ≢ 2 → ReadyAs v j (λ n s. TakePlace b n)
-  take_ready own one two es id knows small = (refl, (its, own, one, two))
+  pub take_ready : v.number ≡ suc (maker_of b) → made_state b v.log ≢ 1 → made_state b v.log ≢ 2 → ((o : ℕ) → is_writing o v.log ≡ false) → ReadyAs v j (λ n s. TakePlace b n)
+  take_ready own one two idle es id knows small = (refl, (its, own, one, two, idle))
 
   pub put_box_ready : (i x : ℕ) → i < 4 → made_state b v.log ≡ 1 → i ≢ 0 → Ready v j (λ n. PutBox b i x)
   put_box_ready i x low making ne es id knows small = (tt, (its, low, making, ne))
@@ -56,8 +58,8 @@ module _ (k : Shape) (v : View) (j b : ℕ) (same : v.shape ≡ k) (is : IsBoxNa
   pub merge_ready : (d : ℕ) → made_state b v.log ≡ 2 → local_count b v.log ≡ 0 → d ≡ 4 * taken_out b v.log + 3 → Ready v j (λ n. MergeCounts b d n)
   merge_ready d own cleared e es id knows small = (refl, (its, own, cleared, e))
 
-  pub raise_shared_ready : (old : ℕ) → made_state b v.log ≢ 2 → old ≢ 3 → old < 2 ^ 64 → references_held k b v.log + 1 < 2 ^ 32 → Ready v j (λ n. RaiseShared b old n)
-  raise_shared_ready old shared live low few es id knows small = (refl, (its, shared, live, low, few_of few))
+  pub raise_shared_ready : (old : ℕ) → made_state b v.log ≢ 2 → old ≢ 3 → old < 2 ^ 64 → references_held k b v.log + 1 < 2 ^ 32 → SawBox k b v.log → Ready v j (λ n. RaiseShared b old n)
+  raise_shared_ready old shared live low few saw es id knows small = (refl, (its, shared, live, low, few_of few, subst (λ (z : Shape). SawBox z b v.log) (sym same) saw))
 
   pub raise_kept_ready : made_state b v.log ≢ 2 → KeepsBox k b v.log → references_held k b v.log + 1 < 2 ^ 32 → Ready v j (λ n. RaiseKept b n)
   raise_kept_ready shared keeps few es id knows small = (refl, (its, shared, subst (λ (z : Shape). KeepsBox z b v.log) (sym same) keeps, few_of few))

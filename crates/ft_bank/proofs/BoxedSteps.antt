@@ -7,7 +7,7 @@ use Rattle.ft_trace.specs.declared.Shape.{Shape}
 use Rattle.ft_trace.specs.declared.View.{View}
 use Rattle.ft_trace.specs.Addresses.{box_word, container_count, IsBoxName}
 use Rattle.ft_trace.specs.Acts.{has_lock, has_lock_next, mem, mem_next, place, word_after, view_after, seen_writes}
-use Rattle.ft_trace.specs.Boxes.{named_in_container, made_state, made_state_next, local_count, local_count_next, taken_out, taken_out_next, place_to_give, place_to_give_next, references_held, references_held_next, times_kept, knows_box_word}
+use Rattle.ft_trace.specs.Boxes.{named_in_container, made_state, made_state_next, local_count, local_count_next, taken_out, taken_out_next, place_to_give, place_to_give_next, place_use, place_use_next, references_held, references_held_next, times_kept, knows_box_word}
 use Rattle.ft_trace.specs.ContainerStates.{container_after}
 use Rattle.ft_trace.specs.Holds.{held_unboxed}
 use Rattle.ft_trace.specs.Pictures.{picture}
@@ -44,6 +44,7 @@ pub record LeavesBoxes (a : Act) : Type 0 where
   pub local : (b n : ℕ) → local_count_next b a n ≡ n
   pub taken : (b l n : ℕ) → taken_out_next b a l n ≡ n
   pub places : (b n : ℕ) → place_to_give_next b a n ≡ n
+  pub uses : (b n : ℕ) → place_use_next b a n ≡ n
 
 by_lock : (x : Bool) (m n : ℕ) → (x ≡ true → m ≡ n) → cond x m 0 ≡ cond x n 0
 by_lock true m n same = same refl
@@ -89,6 +90,7 @@ module _ (v : View) (a : Act) (leaves : LeavesBoxes a) (d : Acted v a) where
     local = λ b. leaves.local b (local_count b v.log);
     taken = λ b. leaves.taken b (local_count b v.log) (taken_out b v.log);
     places = λ b. leaves.places b (place_to_give b v.log);
+    uses = λ b. leaves.uses b (place_use b v.log);
   }
 
   same_by : ((b i : ℕ) → IsBoxName k b → i < 4 → word k (did d.1 v a ∷ d.0) (box_word b i) ≡ word k d.0 (box_word b i)) → SameBoxes v (view_after a v)
@@ -106,7 +108,7 @@ module _ (v : View) (a : Act) (leaves : LeavesBoxes a) (d : Acted v a) where
   same_loaded loads = same_by (λ b i is low. loaded k d.0 d.1 v a loads (box_word b i))
 
 block_leaves : (o i x : ℕ) → LeavesBoxes (PutBlock o i x)
-block_leaves o i x = record { lock = λ p b. refl; unput = λ z. z; references = λ k b n before after. refl; state = λ b n. refl; local = λ b n. refl; taken = λ b l n. refl; places = λ b n. refl }
+block_leaves o i x = record { lock = λ p b. refl; unput = λ z. z; references = λ k b n before after. refl; state = λ b n. refl; local = λ b n. refl; taken = λ b l n. refl; places = λ b n. refl; uses = λ b n. refl }
 
 pub block_boxes : (v : View) (o i x : ℕ) → Acted v (PutBlock o i x) → SameBoxes v (view_after (PutBlock o i x) v)
 block_boxes v o i x d = same_boxes v (PutBlock o i x) (block_leaves o i x) d (λ b j e. absurd (cc))
@@ -114,7 +116,7 @@ block_boxes v o i x d = same_boxes v (PutBlock o i x) (block_leaves o i x) d (λ
 -- ---- one after the other
 
 pub made_same : (v : View) → SameMade v v
-made_same v = record { state = λ b. refl; local = λ b. refl; taken = λ b. refl; places = λ b. refl }
+made_same v = record { state = λ b. refl; local = λ b. refl; taken = λ b. refl; places = λ b. refl; uses = λ b. refl }
 
 pub made_then : (u v w : View) → SameMade u v → SameMade v w → SameMade u w
 made_then u v w a b = record {
@@ -122,6 +124,7 @@ made_then u v w a b = record {
   local = λ c. b.local c ∙ a.local c;
   taken = λ c. b.taken c ∙ a.taken c;
   places = λ c. b.places c ∙ a.places c;
+  uses = λ c. b.uses c ∙ a.uses c;
 }
 
 pub boxes_same : (v : View) → SameBoxes v v
@@ -202,9 +205,9 @@ only_loaded v a is leaves loads d =
 pub box_loaded : (v w : View) (b i f : ℕ) → w ≡ view_after (ReadBox b i f) v → Acted v (ReadBox b i f) → OnlyLoaded v w
 box_loaded v w b i f is d =
     subst (OnlyLoaded v) (sym is)
-    (only_loaded v (ReadBox b i f) tt (record { lock = λ p x. refl; unput = λ z. z; references = λ k c n before after. refl; state = λ c n. refl; local = λ c n. refl; taken = λ c l n. refl; places = λ c n. refl }) (λ n. refl) d)
+    (only_loaded v (ReadBox b i f) tt (record { lock = λ p x. refl; unput = λ z. z; references = λ k c n before after. refl; state = λ c n. refl; local = λ c n. refl; taken = λ c l n. refl; places = λ c n. refl; uses = λ c n. refl }) (λ n. refl) d)
 
 pub places_loaded : (v w : View) (q i f : ℕ) → w ≡ view_after (ReadFreePlaces q i f) v → Acted v (ReadFreePlaces q i f) → OnlyLoaded v w
 places_loaded v w q i f is d =
     subst (OnlyLoaded v) (sym is)
-    (only_loaded v (ReadFreePlaces q i f) tt (record { lock = λ p x. refl; unput = λ z. z; references = λ k c n before after. refl; state = λ c n. refl; local = λ c n. refl; taken = λ c l n. refl; places = λ c n. refl }) (λ n. refl) d)
+    (only_loaded v (ReadFreePlaces q i f) tt (record { lock = λ p x. refl; unput = λ z. z; references = λ k c n before after. refl; state = λ c n. refl; local = λ c n. refl; taken = λ c l n. refl; places = λ c n. refl; uses = λ c n. refl }) (λ n. refl) d)

@@ -18,6 +18,7 @@ use Rattle.ft_trace.proofs.Floored.{floored, floor_tells}
 use Rattle.ft_bank.specs.Slips.{slip_with}
 use Rattle.ft_bank.specs.Rules.{Acted}
 use Rattle.ft_bank.proofs.Allowed.{same_settled}
+use Rattle.ft_bank.proofs.DoneBoxes.{done_at_first, merged_at_first}
 
 -- who gives tokens away may still be there
 pub sender_possible : (v : View) (given : ℕ) → v.number ≢ 0 → given ≤ v.tokens → (given ≡ v.tokens → 0 < v.tokens → IsQuiet v) → IsReachable v → IsReachable (sender given v)
@@ -33,7 +34,7 @@ pub no_floor : (v : View) → 0 < v.tokens → (sender v.tokens v).has_floor ≡
 no_floor v token = miss v.tokens 0 v.has_floor false (λ e. omega (arith, e, token))
 
 pub tokens_free : (tokens n : ℕ) (words : List ℕ) (told : List Told) → IsFree (slip_with tokens n words told)
-tokens_free tokens n words told = ((λ o. refl), (λ t. inl refl), refl, refl, refl, refl, (λ b. (refl, (λ z. omega (arith, z)), (λ z. omega (arith, z)), refl)))
+tokens_free tokens n words told = ((λ o. refl), (λ t. inl refl), refl, refl, refl, refl, done_at_first, merged_at_first)
 
 -- taking the floor loads the counter
 pub floor_settles : (v : View) (n : ℕ) (s : Snap) (w : View) → w ≡ view_after (TakeFloor n s) v → Acted v (TakeFloor n s) → w.learnt ≤ shown w.log

@@ -13,7 +13,7 @@ use Rattle.ft_trace.specs.declared.Shape.{Shape}
 use Rattle.ft_trace.specs.declared.View.{View}
 use Rattle.ft_trace.specs.Addresses.{container_count}
 use Rattle.ft_trace.specs.Acts.{is_writing, stage, debt, mem, view_after, shown, seen_writes, presence_after_entry}
-use Rattle.ft_trace.specs.Boxes.{references_held}
+use Rattle.ft_trace.specs.Boxes.{place_use, references_held}
 use Rattle.ft_trace.specs.ContainerStates.{container_after, changes, kind_in, kinds_in}
 use Rattle.ft_trace.specs.Pictures.{picture, root_in, Represents}
 use Rattle.ft_trace.specs.Holds.{held_words, held_unboxed, known_state}
@@ -23,8 +23,9 @@ use Rattle.ft_trace.proofs.Owning.{owners_then}
 use Rattle.ft_trace.proofs.Seeing.{seen_up}
 use Rattle.ft_trace.proofs.Untouched.{untouched_in}
 use Rattle.ft_trace.proofs.BoxKnown.{sure_after, sure_keeps}
-use Rattle.ft_bank.specs.SameBoxes.{named_in_words, MovesReferences, SameBoxes, SameMade}
+use Rattle.ft_bank.specs.SameBoxes.{named_in_words, MovesReferences, SameBoxes, SameMade, StaysSettled}
 use Rattle.ft_bank.proofs.BoxedSteps.{made_same, made_then, boxes_then}
+use Rattle.ft_bank.proofs.DoneBoxes.{none_taken, settled_same, settled_then, stays_settled_same}
 use Rattle.ft_bank.specs.Whole.{SamePass, SameWork, OnlyBoxed, OnlyLoaded, OnlyPut, OnlyWritten, EndsWrite, Wrote, hand_after, debt_after, write_entry}
 
 -- ---- loads and puts
@@ -63,11 +64,11 @@ IsLoad act = ⊥
 
 -- what a pass knows of a box it knows after a load of another word
 load_boxes : (a : Act) (v : View) → IsLoad a → SameBoxes v (view_after a v)
-load_boxes (Version o f) v ok = record { references = λ b. refl; made = record { state = λ b. refl; local = λ b. refl; taken = λ b. refl; places = λ b. refl }; knows = λ b i is which su. (sure_after v.shape b i (Version o f) v.log (sure_keeps v.shape b i v.log su) su, refl) }
-load_boxes (ReadBlock o i f) v ok = record { references = λ b. refl; made = record { state = λ b. refl; local = λ b. refl; taken = λ b. refl; places = λ b. refl }; knows = λ b i is which su. (sure_after v.shape b i (ReadBlock o i f) v.log (sure_keeps v.shape b i v.log su) su, refl) }
-load_boxes (ReadTable t i f) v ok = record { references = λ b. refl; made = record { state = λ b. refl; local = λ b. refl; taken = λ b. refl; places = λ b. refl }; knows = λ b i is which su. (sure_after v.shape b i (ReadTable t i f) v.log (sure_keeps v.shape b i v.log su) su, refl) }
-load_boxes (ReadCounter f) v ok = record { references = λ b. refl; made = record { state = λ b. refl; local = λ b. refl; taken = λ b. refl; places = λ b. refl }; knows = λ b i is which su. (sure_after v.shape b i (ReadCounter f) v.log (sure_keeps v.shape b i v.log su) su, refl) }
-load_boxes (ReadRoot o f) v ok = record { references = λ b. refl; made = record { state = λ b. refl; local = λ b. refl; taken = λ b. refl; places = λ b. refl }; knows = λ b i is which su. (sure_after v.shape b i (ReadRoot o f) v.log (sure_keeps v.shape b i v.log su) su, refl) }
+load_boxes (Version o f) v ok = record { references = λ b. refl; made = record { state = λ b. refl; local = λ b. refl; taken = λ b. refl; places = λ b. refl; uses = λ b. refl }; knows = λ b i is which su. (sure_after v.shape b i (Version o f) v.log (sure_keeps v.shape b i v.log su) su, refl) }
+load_boxes (ReadBlock o i f) v ok = record { references = λ b. refl; made = record { state = λ b. refl; local = λ b. refl; taken = λ b. refl; places = λ b. refl; uses = λ b. refl }; knows = λ b i is which su. (sure_after v.shape b i (ReadBlock o i f) v.log (sure_keeps v.shape b i v.log su) su, refl) }
+load_boxes (ReadTable t i f) v ok = record { references = λ b. refl; made = record { state = λ b. refl; local = λ b. refl; taken = λ b. refl; places = λ b. refl; uses = λ b. refl }; knows = λ b i is which su. (sure_after v.shape b i (ReadTable t i f) v.log (sure_keeps v.shape b i v.log su) su, refl) }
+load_boxes (ReadCounter f) v ok = record { references = λ b. refl; made = record { state = λ b. refl; local = λ b. refl; taken = λ b. refl; places = λ b. refl; uses = λ b. refl }; knows = λ b i is which su. (sure_after v.shape b i (ReadCounter f) v.log (sure_keeps v.shape b i v.log su) su, refl) }
+load_boxes (ReadRoot o f) v ok = record { references = λ b. refl; made = record { state = λ b. refl; local = λ b. refl; taken = λ b. refl; places = λ b. refl; uses = λ b. refl }; knows = λ b i is which su. (sure_after v.shape b i (ReadRoot o f) v.log (sure_keeps v.shape b i v.log su) su, refl) }
 load_boxes a v ok = absurd ok
 
 load_only : (a : Act) (v : View) → IsLoad a → OnlyLoaded v (view_after a v)
@@ -157,11 +158,11 @@ module _ (u v w : View) where
   }
 
 module _ (o : ℕ) where
-  -- a put is such a step, and so is one with boxes that leaves those that the pass made
+  -- a put is such a step, and so is one with boxes after which the pass's own boxes are settled
   pub put_written : (v w : View) → OnlyPut o v w → OnlyWritten o v w
-  put_written v w a = record { work = a.work; made = a.made; loses = λ b. subst (λ (n : ℕ). n ≤ references_held v.shape b v.log + named_in_words b (kind_in v.shape.starts o) (held_words o v)) (sym (a.moves b)) (le_refl _); others = a.others }
+  put_written v w a = record { work = a.work; made = stays_settled_same v w a.made; loses = λ b. subst (λ (n : ℕ). n ≤ references_held v.shape b v.log + named_in_words b (kind_in v.shape.starts o) (held_words o v)) (sym (a.moves b)) (le_refl _); others = a.others }
 
-  pub boxed_written : (v w : View) → OnlyBoxed v w → SameMade v w → ((b : ℕ) → references_held w.shape b w.log ≤ references_held v.shape b v.log) → OnlyWritten o v w
+  pub boxed_written : (v w : View) → OnlyBoxed v w → StaysSettled v w → ((b : ℕ) → references_held w.shape b w.log ≤ references_held v.shape b v.log) → OnlyWritten o v w
   boxed_written v w a made fewer = record {
     work = a.work;
     made = made;
@@ -177,7 +178,7 @@ module _ (o : ℕ) where
   pub written_then : (u v w : View) → OnlyWritten o u v → OnlyWritten o v w → OnlyWritten o u w
   written_then u v w a b = record {
     work = work_then u v w a.work b.work;
-    made = made_then u v w a.made b.made;
+    made = settled_then u v w a.made b.made;
     loses = λ c. le_trans (b.loses c) (a.loses c);
     others = λ p low ne mine quiet.
         let one = a.others p low ne mine quiet in
@@ -203,14 +204,14 @@ loaded_boxed v w a = record { work = a.work; words = a.words; unboxed = a.unboxe
 
 -- loads and puts take no step with boxes
 pub calm_made : (a : Act) (v : View) → IsCalm a → SameMade v (view_after a v)
-calm_made (Version o f) v ok = record { state = λ b. refl; local = λ b. refl; taken = λ b. refl; places = λ b. refl }
-calm_made (ReadBlock o i f) v ok = record { state = λ b. refl; local = λ b. refl; taken = λ b. refl; places = λ b. refl }
-calm_made (ReadTable t i f) v ok = record { state = λ b. refl; local = λ b. refl; taken = λ b. refl; places = λ b. refl }
-calm_made (ReadCounter f) v ok = record { state = λ b. refl; local = λ b. refl; taken = λ b. refl; places = λ b. refl }
-calm_made (ReadRoot o f) v ok = record { state = λ b. refl; local = λ b. refl; taken = λ b. refl; places = λ b. refl }
-calm_made (PutBlock o i x) v ok = record { state = λ b. refl; local = λ b. refl; taken = λ b. refl; places = λ b. refl }
-calm_made (PutTable o t i x) v ok = record { state = λ b. refl; local = λ b. refl; taken = λ b. refl; places = λ b. refl }
-calm_made (PutFresh t i x) v ok = record { state = λ b. refl; local = λ b. refl; taken = λ b. refl; places = λ b. refl }
+calm_made (Version o f) v ok = record { state = λ b. refl; local = λ b. refl; taken = λ b. refl; places = λ b. refl; uses = λ b. refl }
+calm_made (ReadBlock o i f) v ok = record { state = λ b. refl; local = λ b. refl; taken = λ b. refl; places = λ b. refl; uses = λ b. refl }
+calm_made (ReadTable t i f) v ok = record { state = λ b. refl; local = λ b. refl; taken = λ b. refl; places = λ b. refl; uses = λ b. refl }
+calm_made (ReadCounter f) v ok = record { state = λ b. refl; local = λ b. refl; taken = λ b. refl; places = λ b. refl; uses = λ b. refl }
+calm_made (ReadRoot o f) v ok = record { state = λ b. refl; local = λ b. refl; taken = λ b. refl; places = λ b. refl; uses = λ b. refl }
+calm_made (PutBlock o i x) v ok = record { state = λ b. refl; local = λ b. refl; taken = λ b. refl; places = λ b. refl; uses = λ b. refl }
+calm_made (PutTable o t i x) v ok = record { state = λ b. refl; local = λ b. refl; taken = λ b. refl; places = λ b. refl; uses = λ b. refl }
+calm_made (PutFresh t i x) v ok = record { state = λ b. refl; local = λ b. refl; taken = λ b. refl; places = λ b. refl; uses = λ b. refl }
 calm_made a v ok = absurd ok
 
 -- a put, which leaves what the pass knows of containers that it doesn't write
@@ -238,6 +239,13 @@ module _ (called : Call) (said : Reply) (number g : ℕ) (snap : Snap) (u c z w 
 
   others_stop : (p : ℕ) → p ≢ o → is_writing p done.log ≡ is_writing p z.log
   others_stop p ne = miss o p false (is_writing p z.log) (λ e. ne (sym e))
+
+  -- the write has stored each box whose place the pass had taken
+  commit_settles : SameMade made z → StaysSettled u done
+  commit_settles same = record {
+    settled = settled_same u.log done.log same.state same.local same.taken same.places;
+    places = λ b taken. absurd (none_taken (place_use b u.log) (sym (same.uses b) ∙ taken));
+  }
 
   ends_at : seen_writes u ≤ number → OnlyPut o made z → Committed u made called → 0 < u.left → root_in (held_words o z) ≡ root_in (held_words o u) → Represents u.shape.texts (held_unboxed o z) (known_state o z) → EndsWrite called said number u done
   ends_at low puts committed some root stands =
@@ -272,7 +280,7 @@ module _ (called : Call) (said : Reply) (number g : ℕ) (snap : Snap) (u c z w 
         used = w1.used;
         owes = w1.owes;
         tables = w1.tables;
-        made = record { state = puts.made.state; local = puts.made.local; taken = puts.made.taken; places = puts.made.places };
+        made = commit_settles puts.made;
         moves = puts.moves;
         root = root;
         others = λ p low ne mine quiet.
@@ -349,7 +357,7 @@ module _ (called : Call) (said : Reply) (number f : ℕ) (v s u w : View) where
         used = ends.used;
         owes = ends.owes;
         tables = ends.tables ∙ w1.tables;
-        made = made_then v u w (record { state = puts.made.state; local = puts.made.local; taken = puts.made.taken; places = puts.made.places }) ends.made;
+        made = settled_then v u w (record { settled = λ s. puts.made.settled (record { unmade = s.unmade; counted = s.counted; whole = s.whole; given = s.given }); places = puts.made.places }) ends.made;
         loses = λ b. subst (λ (n : ℕ). n ≤ references_held v.shape b v.log + named_in_words b (kind_in v.shape.starts o') (held_words o' v)) (sym (ends.moves b)) (puts.loses b);
         others = λ p low ne mine quiet'.
             let low' = subst (λ (k : Shape). p < container_count k) (sym p1.shape) low in

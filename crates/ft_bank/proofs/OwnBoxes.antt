@@ -10,9 +10,8 @@ use Rattle.ft_trace.specs.declared.Act.{Act}
 use Rattle.ft_trace.specs.declared.Act.TheVariants.{TakePlace, PublishBox, MergeCounts}
 use Rattle.ft_trace.specs.Addresses.{box_word, maker_of, IsBoxName}
 use Rattle.ft_trace.specs.Acts.{starter, view_after, maker, made, both, spent, sender, note}
-use Rattle.ft_trace.specs.Boxes.{made_state, made_state_next}
+use Rattle.ft_trace.specs.Boxes.{made_state}
 use Rattle.ft_trace.specs.BoxTraces.{box_state, has_in_default}
-use Rattle.ft_trace.specs.Entries.{total}
 use Rattle.ft_trace.specs.Traces.{Event, did, forked, joined, sent, run, word, history, May, Valid}
 use Rattle.ft_trace.proofs.Boxed.{boxed}
 use Rattle.ft_trace.proofs.Cases.{here, miss}

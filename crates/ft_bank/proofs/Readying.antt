@@ -120,6 +120,7 @@ commit_ready v c r few may es id knows small =
         may.declared now has,
         may.words,
         may.locks,
+        may.stores now has,
       ),
     )
 
@@ -159,21 +160,28 @@ pub inner_for : (root : Option Table) (v : View) → inner v.shape (root_for roo
 inner_for None v = refl
 inner_for (Some t) v = refl
 
--- and those that a put of a root needs
-root_refs : (v : View) (o old : ℕ) (root : Option Table) → o < container_count v.shape → has_lock o v.log ≡ true → ((t : ℕ) → root_for root ≡ suc t → IsTableName v.shape t) → HasRootReferences v o root → Sure v (λ es. HasReferences v.shape v.log (PutRoot o (root_for root) old) o)
-root_refs v o old root low mine tables refs es id knows b =
+-- how many values of the container name a box then
+named_after : (v : View) (o old : ℕ) (root : Option Table) → o < container_count v.shape → has_lock o v.log ≡ true → ((t : ℕ) → root_for root ≡ suc t → IsTableName v.shape t) → Sure v (λ es. (b : ℕ) → named_in_container v.shape b o (mem v.shape (PutRoot o (root_for root) old ∷ v.log)) ≡ named_in_root b (kind_in v.shape.starts o) (root_for root) (words_for root v))
+named_after v o old root low mine tables es id knows b =
     let k = v.shape in
     let kind = kind_in k.starts o in
     let r = root_for root in
     let ws = mem k v.log in
-    let now = mem k (PutRoot o r old ∷ v.log) in
     let pic = root_put k o low ws r (wide_for v o mine es id knows) tables in
     let block_at_root : slice_index (slice_set (block_of k o ws) 0 r) 0 ≡ r = get_or-set_same (block_of k o ws) 0 r 0 (let l = block_long k o ws in omega (arith, l)) in
-    let after : named_in_container k b o now ≡ named_in_root b kind r (words_for root v) =
-    named_is k o b now
+    named_is k o b (mem k (PutRoot o r old ∷ v.log))
     ∙ ((λ d. named_in_root b kind (root_in (pic d)) (pic d).table)
-    ∙ (λ d. named_in_root b kind (block_at_root d) (inner_for root v d))) in
-    let before : named_in_container k b o ws ≡ named_in_words b kind (held_words o v) = named_is k o b ws in
+    ∙ (λ d. named_in_root b kind (block_at_root d) (inner_for root v d)))
+
+-- and the references that such a put needs
+root_refs : (v : View) (o old : ℕ) (root : Option Table) → o < container_count v.shape → has_lock o v.log ≡ true → ((t : ℕ) → root_for root ≡ suc t → IsTableName v.shape t) → HasRootReferences v o root → Sure v (λ es. HasReferences v.shape v.log (PutRoot o (root_for root) old) o)
+root_refs v o old root low mine tables refs es id knows b =
+    let k = v.shape in
+    let r = root_for root in
+    let ws = mem k v.log in
+    let now = mem k (PutRoot o r old ∷ v.log) in
+    let after = named_after v o old root low mine tables es id knows b in
+    let before : named_in_container k b o ws ≡ named_in_words b (kind_in k.starts o) (held_words o v) = named_is k o b ws in
     let enough = refs.enough b in
     let few = few_at_first k es knows.0 id v knows.1 o low mine refs.few b in
     let held : references_held k b (PutRoot o r old ∷ v.log) ≡ references_held k b v.log + named_in_container k b o ws - named_in_container k b o now = refl in (
@@ -229,5 +237,6 @@ root_ready v j o root low tables may es id knows less =
             let box : ℕ → ℕ → ℕ = λ b i. known_box_word k b i v.log in
             subst (λ (z : ℕ). ShutFor k (run k es).words o z) q.2
             (subst (Shut (version_at kind (class_of n)) (rows kind (class_of n))) (hand_known v n (tables q.0 q.1) (may.fresh q.0 q.1) es id knows) (λ p less. ap (λ (z : ℕ). z % 2) (sym (read_version box (class_of n) (rows kind (class_of n)) (in_hand n v) kind refl p less) ∙ (may.young q.0 p q.1 less).1 done)))),
+        (λ b taken. named_after v o old root low mine names_of es id knows b ∙ may.references.stored b taken),
       ),
     )

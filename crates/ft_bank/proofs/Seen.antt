@@ -22,6 +22,7 @@ use Rattle.ft_bank.specs.Slips.{slip}
 use Rattle.ft_bank.specs.Notes.{knowing}
 use Rattle.ft_bank.specs.Rules.{Acted}
 use Rattle.ft_bank.proofs.Allowed.{same_settled}
+use Rattle.ft_bank.proofs.DoneBoxes.{done_at_first, merged_at_first}
 
 -- a load of the counter gives what the pass has seen, at least
 pub load_sees : (v : View) (n : ℕ) → Acted v (ReadCounter n) → seen_writes v ≤ n
@@ -116,7 +117,7 @@ answered_seen v w z called said part n own last is settled possible =
 
 -- a note has no lock and no table
 pub slip_free : (n : ℕ) (told : List Told) → IsFree (slip n told)
-slip_free n told = ((λ o. refl), (λ t. inl refl), refl, refl, refl, refl, (λ b. (refl, (λ z. omega (arith, z)), (λ z. omega (arith, z)), refl)))
+slip_free n told = ((λ o. refl), (λ t. inl refl), refl, refl, refl, refl, done_at_first, merged_at_first)
 
 -- what was taken in counts
 pub taken_in : (v w : View) → w.learnt ≤ (both v w).learnt

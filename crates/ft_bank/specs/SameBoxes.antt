@@ -4,7 +4,7 @@ use Rattle.ft_model.specs.declared.script.Kind.{Kind}
 use Rattle.ft_layout.specs.Starts.{kind_word, payload_word}
 use Rattle.ft_trace.specs.declared.View.{View}
 use Rattle.ft_trace.specs.Addresses.{IsBoxName}
-use Rattle.ft_trace.specs.Boxes.{named_in_root, made_state, local_count, taken_out, place_to_give, references_held, known_box_word, knows_box_word}
+use Rattle.ft_trace.specs.Boxes.{named_in_root, made_state, local_count, taken_out, place_to_give, place_use, use_taken, references_held, known_box_word, knows_box_word, IsSettled}
 use Rattle.ft_trace.specs.ContainerStates.{kind_in}
 use Rattle.ft_trace.specs.Holds.{held_words}
 use Rattle.ft_trace.specs.Pictures.{ContainerWords, root_in}
@@ -13,12 +13,24 @@ use Rattle.ft_trace.specs.Pictures.{ContainerWords, root_in}
 abbrev pub SameReferences : View → View → Type 0
 SameReferences v w = (b : ℕ) → references_held w.shape b w.log ≡ references_held v.shape b v.log
 
--- the boxes that the pass made are in the same states, with the same counts, and it has the same places to give back
+-- the boxes that the pass made are in the same states, with the same counts; it has the same places to give back, and
+-- has taken and stored the same
 pub record SameMade (v w : View) : Type 0 where
   pub state : (b : ℕ) → made_state b w.log ≡ made_state b v.log
   pub local : (b : ℕ) → local_count b w.log ≡ local_count b v.log
   pub taken : (b : ℕ) → taken_out b w.log ≡ taken_out b v.log
   pub places : (b : ℕ) → place_to_give b w.log ≡ place_to_give b v.log
+  pub uses : (b : ℕ) → place_use b w.log ≡ place_use b v.log
+
+-- it has taken no place for a box
+abbrev pub TakesNoPlace : View → View → Type 0
+TakesNoPlace v w = (b : ℕ) → place_use b w.log ≡ use_taken → place_use b v.log ≡ use_taken
+
+-- What the pass has to do with its own boxes is settled where it was before: references that it dropped may have merged
+-- some of them. It has taken no place for a box. (PEP 703, "Biased Reference Counting")
+pub record StaysSettled (v w : View) : Type 0 where
+  pub settled : IsSettled v.log → IsSettled w.log
+  pub places : TakesNoPlace v w
 
 -- what the pass knew of the value in a box it knows still
 abbrev pub KnowsBoxes : View → View → Type 0

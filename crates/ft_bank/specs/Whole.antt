@@ -17,7 +17,7 @@ use Rattle.ft_trace.specs.Pictures.{root_in, Represents}
 use Rattle.ft_trace.specs.Holds.{held_words, held_unboxed, known_state}
 use Rattle.ft_bank.specs.Locks.{KnowsSame}
 use Rattle.ft_bank.specs.Logs.{HasGrown, StaysOnline}
-use Rattle.ft_bank.specs.SameBoxes.{LosesReferences, MovesReferences, SameBoxes, SameMade}
+use Rattle.ft_bank.specs.SameBoxes.{LosesReferences, MovesReferences, SameBoxes, SameMade, StaysSettled}
 use Rattle.ft_bank.specs.TableActs.{table_acts}
 use Rattle.ft_bank.specs.WriteSteps.{MayHave}
 
@@ -87,11 +87,11 @@ pub record OnlyPut (o : ℕ) (v w : View) : Type 0 where
       → (held_words p w ≡ held_words p v) × (held_unboxed p w ≡ held_unboxed p v)
 
 -- The pass has loaded words, put words of the container o and taken steps with boxes, and done nothing else: of each
--- other container whose lock it has and that it doesn't write it knows the same words, which read the same. The boxes
--- that it made are as they were, and it may have dropped references that the words of o have no longer. (profile)
+-- other container whose lock it has and that it doesn't write it knows the same words, which read the same. It may have
+-- dropped references that the words of o have no longer. (profile)
 pub record OnlyWritten (o : ℕ) (v w : View) : Type 0 where
   pub work : SameWork v w
-  pub made : SameMade v w
+  pub made : StaysSettled v w
   pub loses : LosesReferences o v w
   pub others : (p : ℕ) → p < container_count v.shape → p ≢ o → has_lock p v.log ≡ true → is_writing p v.log ≡ false
       → (held_words p w ≡ held_words p v) × (held_unboxed p w ≡ held_unboxed p v)
@@ -141,7 +141,7 @@ pub record EndsWrite (called : Call) (said : Reply) (number : ℕ) (v w : View) 
   pub used : used w.log ≡ false
   pub owes : owes w.log ≡ 0
   pub tables : table_acts w.log ≡ table_acts v.log
-  pub made : SameMade v w
+  pub made : StaysSettled v w
   pub moves : MovesReferences (changes called) v w
   pub root : root_in (held_words (changes called) w) ≡ root_in (held_words (changes called) v)
   pub others : (p : ℕ) → p < container_count v.shape → p ≢ changes called → has_lock p v.log ≡ true
@@ -173,7 +173,7 @@ pub record Wrote (called : Call) (said : Reply) (number : ℕ) (v w : View) : Ty
   pub used : used w.log ≡ false
   pub owes : owes w.log ≡ 0
   pub tables : table_acts w.log ≡ table_acts v.log
-  pub made : SameMade v w
+  pub made : StaysSettled v w
   pub loses : LosesReferences (changes called) v w
   pub others : (p : ℕ) → p < container_count v.shape → p ≢ changes called → has_lock p v.log ≡ true
       → is_writing p v.log ≡ false

@@ -17,7 +17,7 @@ use Rattle.ft_trace.specs.OddVersions.{Shut, Timely}
 use Rattle.ft_trace.specs.FitCalls.{FitsCall, FitsContent}
 use Rattle.ft_trace.specs.BegunSections.{HasLocksOf}
 use Rattle.ft_layout.specs.Starts.{kind_word, payload_word}
-use Rattle.ft_trace.specs.Boxes.{named_in_root, references_held, knows_box_word, HasReferences}
+use Rattle.ft_trace.specs.Boxes.{named_in_root, references_held, knows_box_word, place_use, use_taken, HasReferences, StoresTaken}
 use Rattle.ft_trace.specs.WholeWrites.{IsNoValue}
 use Rattle.ft_trace.specs.declared.Act.TheVariants.{PutTable}
 use Rattle.ft_trace.specs.Holds.{held_words, held_unboxed, known_state, hand_unboxed, AgreesWith}
@@ -43,7 +43,7 @@ pub record MayHave (v : View) (stored : StoredWorld) : Type 0 where
 -- In the table that stays each entry or item with an even version says the same after the call, the call changes what
 -- is in each with an odd one, and each that is added is there. Where the pass has lowered a count and not raised it
 -- again, the call takes a table of that class; where it has put 0 into the root, the call is one that may. The pass has
--- the lock of each container that the call names.
+-- the lock of each container that the call names. A box that no write of the pass has stored yet is stored by this one.
 pub record MayCommit (v : View) (call : Call) (reply : Reply) : Type 0 where
   pub write : is_write call reply ≡ true
   pub container : changes call < container_count v.shape
@@ -60,6 +60,7 @@ pub record MayCommit (v : View) (call : Call) (reply : Reply) : Type 0 where
       → takes_in stored call ≡ Some class
   pub empties : has_emptied (changes call) v.log ≡ true → may_empty call ≡ true
   pub locks : HasLocksOf call v.log
+  pub stores : (stored : StoredWorld) → MayHave v stored → StoresTaken v.shape stored.world v.log call
 
 -- What a commit leaves of the stored world that it finds, which is one that the bank may have: that is what the pass
 -- knows of every container then.
@@ -76,7 +77,8 @@ IsShut o v =
     (held_unboxed o v).table
 
 -- The pass has the references for the boxes that the table of this root names: those that it holds, and those of the
--- container's words as they are. It knows the value of each that the container doesn't name yet, and holds few.
+-- container's words as they are. It knows the value of each that the container doesn't name yet, and holds few. The
+-- table names no box that no write of the pass has stored yet.
 pub record HasRootReferences (v : View) (o : ℕ) (root : Option Table) : Type 0 where
   pub few : HoldsFew v
   pub enough : (b : ℕ) → named_in_root b (kind_in v.shape.starts o) (root_for root) (words_for root v)
@@ -84,6 +86,8 @@ pub record HasRootReferences (v : View) (o : ℕ) (root : Option Table) : Type 0
   pub known : (b : ℕ) → named_in_words b (kind_in v.shape.starts o) (held_words o v) ≡ 0
       → named_in_root b (kind_in v.shape.starts o) (root_for root) (words_for root v) ≢ 0
       → (knows_box_word v.shape b kind_word v.log ≡ true) × (knows_box_word v.shape b payload_word v.log ≡ true)
+  pub stored : (b : ℕ) → place_use b v.log ≡ use_taken
+      → named_in_root b (kind_in v.shape.starts o) (root_for root) (words_for root v) ≡ 0
 
 -- The root of o may become this. A table that it names is fresh in hand, as it must be for readers of the content, and
 -- its versions are 0, or before the commit at most 1. No version is odd in the table that the root names now, and the

@@ -1,13 +1,15 @@
 //! The steps on boxes: a pass takes a place of its own heap, puts a box there and publishes it. Each reference is
 //! counted once, by the maker in the local count while the box is in the default state, and by all others in the
 //! shared count (PEP 703, "Biased Reference Counting"). Who brings a merged box to its end gives the place back.
-ghost use Rattle.std.specs.Prelude.{◌≡◌, ◌≢◌, ◌⊎◌, ℕ, ◌+◌, ◌-◌, ◌*◌, ◌/◌, ◌%◌, ◌^◌, ◌<◌, ◌≤◌, true};
+ghost use Rattle.std.specs.Prelude.{◌≡◌, ◌≢◌, ◌⊎◌, ℕ, ◌+◌, ◌-◌, ◌*◌, ◌/◌, ◌%◌, ◌^◌, ◌<◌, ◌≤◌, true, false};
 ghost use Rattle.ft_layout.specs.Starts.{box_size, shared_word, kind_word, payload_word, local_word};
 ghost use Rattle.ft_trace.specs.declared.Act.TheVariants.{ReadFreePlaces, TakePlace, PutBox, PublishBox, ReadBox, RaiseLocal, DropLocal, ClearLocal, MergeCounts, RaiseShared, RaiseKept, DropShared, GivePlace};
+ghost use Rattle.ft_trace.specs.Acts.{is_writing};
 ghost use Rattle.ft_trace.specs.Addresses.{at, extent, box_word, heap_bits, maker_of, place_word_of, place_bit_of};
 ghost use Rattle.ft_trace.specs.Bits.{bit};
 ghost use Rattle.ft_trace.specs.Boxes.{made_state, local_count, taken_out, place_to_give, references_held, known_box_word, knows_box_word, HasPutValue, KeepsBox, state_making, state_default};
 ghost use Rattle.ft_trace.specs.BoxWords.{count_unit, merged_bits, dead_word};
+ghost use Rattle.ft_trace.specs.SeenBoxes.{SawBox};
 ghost use Rattle.ft_bank.specs.BoxSteps.{box_id, IsBoxIn, IsMaking, IsOwn, IsShared, HasFoundFree};
 ghost use Rattle.ft_bank.specs.Whole.{OnlyBoxed, OnlyLoaded};
 
@@ -83,13 +85,14 @@ impl Bank {
     }
 
     /// Clears the bit of a place of the pass's own heap, in which it keeps no box that wasn't merged, and answers the
-    /// word of bits as it was. A place that the pass has found free is taken.
+    /// word of bits as it was. A place that the pass has found free is taken. It writes no container meanwhile.
     pub fn take_place(&self, pass: &mut Pass, b: Ref) -> u64
         requires pass { IsPassOf self.now pass.old }
         requires name { IsBoxIn (shape_of self.now) b }
         requires maker { (view pass.old).number ≡ b.pass + 1 }
         requires apart { (made_state (box_id b) (view pass.old).log ≢ state_making)
             × (made_state (box_id b) (view pass.old).log ≢ state_default) }
+        requires idle { (o : ℕ) → is_writing o (view pass.old).log ≡ false }
         ensures did { Did (TakePlace (box_id b) result) pass.old pass.new }
         ensures took { HasFoundFree (box_id b) (view pass.old).log → bit (place_bit_of (box_id b)) result ≡ 1 }
         ensures only { OnlyBoxed (view pass.old) (view pass.new) }
@@ -207,14 +210,15 @@ impl Bank {
         self.raise_as::<Brand>(pass, at, UNIT * taken + MERGED, name_of(b))
     }
 
-    /// Raises the shared count of a box where its word is this, which isn't that of a dead box, and answers what it
-    /// was. Where it was this the pass holds one reference more.
+    /// Raises the shared count of a box, whose name the pass has read in a container, where its word is this, which
+    /// isn't that of a dead box; answers what it was. Where it was this the pass holds one reference more.
     pub fn raise_shared(&self, pass: &mut Pass, b: Ref, old: u64) -> u64
         requires pass { IsPassOf self.now pass.old }
         requires name { IsBoxIn (shape_of self.now) b }
         requires shared { IsShared b (view pass.old) }
         requires live { old ≢ dead_word }
         requires few { references_held (shape_of self.now) (box_id b) (view pass.old).log + 1 < 2 ^ 32 }
+        requires saw { SawBox (shape_of self.now) (box_id b) (view pass.old).log }
         ensures did { Did (RaiseShared (box_id b) old result) pass.old pass.new }
         ensures only { OnlyBoxed (view pass.old) (view pass.new) }
     {

@@ -246,7 +246,7 @@ impl Bank {
     }
 
     /// Raises the counter, which is the write, and answers its number: at least all writes that the pass had
-    /// seen.
+    /// seen. A box that no write of the pass had stored is stored by this one.
     pub fn commit(&self, pass: &mut Pass, call: &Call, reply: &Reply) -> u64
         requires pass { IsPassOf self.now pass.old }
         requires may { MayCommit (view pass.old) call.now reply.now }

@@ -2,7 +2,7 @@
 
 use crate::bare_steps;
 use crate::bare_steps::zeros;
-use crate::box_steps::{Boxes, make_all, make_boxes, raise_all};
+use crate::box_steps::{Boxes, make_all, make_boxes, raise_all, see_box};
 use crate::times::{Time, time_of_one};
 use std::alloc::Global;
 use std::io;
@@ -32,16 +32,14 @@ pub(crate) fn measure_boxes<R: Clock>(
         bank,
         mut maker,
         mut other,
-        at,
     } = made;
+    let Some((own, seen)) = see_box(&bank, &mut maker, &mut other) else {
+        return Ok(None);
+    };
     let (table, mut seat) = zeros(alloc)?;
     let words = &table.shared;
-    let makings = Time {
-        bank: time_of_one!(rt, make_all(&bank, &mut maker, rounds)),
-        bare: time_of_one!(rt, bare_steps::make_all(words, &mut seat, rounds), rounds),
-    };
     let raises = Time {
-        bank: time_of_one!(rt, raise_all(&bank, &mut maker, at, rounds)),
+        bank: time_of_one!(rt, raise_all(&bank, &mut maker, own, rounds)),
         bare: time_of_one!(
             rt,
             bare_steps::raise_own_all(words, &mut seat, rounds),
@@ -49,12 +47,16 @@ pub(crate) fn measure_boxes<R: Clock>(
         ),
     };
     let shared_raises = Time {
-        bank: time_of_one!(rt, raise_all(&bank, &mut other, at, rounds)),
+        bank: time_of_one!(rt, raise_all(&bank, &mut other, seen, rounds)),
         bare: time_of_one!(
             rt,
             bare_steps::raise_shared_all(words, &mut seat, rounds),
             rounds
         ),
+    };
+    let makings = Time {
+        bank: time_of_one!(rt, make_all(&bank, &mut maker, rounds)),
+        bare: time_of_one!(rt, bare_steps::make_all(words, &mut seat, rounds), rounds),
     };
     Ok(Some(BoxTimes {
         makings,

@@ -1,6 +1,6 @@
 -- The reversal of a list that has nothing, as a whole write.
-use Rattle.std.proofs.Common.{◌≡◌, ◌≢◌, ℕ, suc, ◌<◌, ◌≤◌, Bool, true, false, true≢false, List, [], ◌∷◌, length, Option, Some, None, refl, sym, ap, ◌∙◌, subst, inr, arith, get_or-set_same}
-use Rattle.std.specs.Prelude.{reverse, slice_index_or}
+use Rattle.std.proofs.Common.{◌≡◌, ℕ, ◌<◌, ◌≤◌, true, false, true≢false, List, [], ◌∷◌, length, Option, Some, None, refl, sym, ap, ◌∙◌, subst, inr, arith, get_or-set_same}
+use Rattle.std.specs.Prelude.{reverse, slice_index_or, IfSome}
 use Rattle.std.proofs.lemmas.List.{length-reverse}
 use Rattle.std.proofs.Math.Nat.{ℕ_set}
 use Rattle.std.proofs.Math.Logic.{∥∥₁_elim}
@@ -16,13 +16,13 @@ use Rattle.ft_model.specs.declared.script.Kind.TheVariants as kind
 use Rattle.ft_model.specs.Answers.{after_write}
 use Rattle.ft_model.specs.TableUses.{StoredWorld, after_stored}
 use Rattle.ft_model.specs.Worlds.{kind_of, length_of, list_of, list_at}
-use Rattle.ft_trace.specs.declared.Act.TheVariants.{StartWrite, Commit, StopWrite}
+use Rattle.ft_trace.specs.declared.Act.{Act}
+use Rattle.ft_trace.specs.declared.Act.TheVariants.{Lock, Unlock, StartWrite, Commit, StopWrite}
 use Rattle.ft_trace.specs.declared.Shape.{Shape}
 use Rattle.ft_trace.specs.declared.Snap.{Snap}
 use Rattle.ft_trace.specs.declared.View.{View}
 use Rattle.ft_trace.specs.Addresses.{container_count}
-use Rattle.ft_trace.specs.Acts.{has_lock, is_writing, has_emptied, view_after, seen_writes}
-use Rattle.ft_trace.specs.LoggedReads.{IsNothing}
+use Rattle.ft_trace.specs.Acts.{is_writing, has_emptied, view_after, seen_writes}
 use Rattle.ft_trace.specs.Traces.{IsReachable}
 use Rattle.ft_trace.specs.ContainerStates.{ContainerState, state_at, kind_in}
 use Rattle.ft_trace.specs.Pictures.{ContainerWords, root_in, Represents}
@@ -31,11 +31,12 @@ use Rattle.ft_trace.proofs.Cases.{hit}
 use Rattle.ft_trace.proofs.Known.{declared_at, kind_known}
 use Rattle.ft_trace.proofs.Naming.{one_locked}
 use Rattle.ft_trace.proofs.NoTable.{no_table_stands}
-use Rattle.ft_bank.specs.WriteSteps.{Committed, IsShut, MayCommit, MayHave}
-use Rattle.ft_bank.specs.Whole.{EndsWrite, OnlyLoaded, Wrote}
+use Rattle.ft_bank.specs.SameBoxes.{SameMade, SameReferences}
+use Rattle.ft_bank.specs.WriteSteps.{Committed, IsShut, MayCommit}
+use Rattle.ft_bank.specs.Whole.{OnlyLoaded, Wrote}
 use Rattle.ft_bank.proofs.KnownAfterWrites.{plain_write, put_same, put_written, work_knows, write_ends}
-use Rattle.ft_trace.specs.Boxes.{IsDoneWithBoxes}
-use Rattle.ft_bank.proofs.DoneBoxes.{done_none, done_same, fewer_named, none_named}
+use Rattle.ft_trace.specs.Boxes.{made_state, HasMergedBoxes, IsDoneWithBoxes}
+use Rattle.ft_bank.proofs.DoneBoxes.{done_as, done_same, done_stays, fewer_named, none_named}
 use Rattle.ft_bank_tests.specs.SmallestWrites.{MayReverse, Reversed}
 
 -- the call
@@ -119,6 +120,7 @@ module _ (k : Shape) (l : ℕ) (v : View) (possible : ∥ IsReachable v ∥₁) 
       clear = λ stored t has names. absurd (omega (arith, names, bare));
       takes = λ stored class has e. let o = may.owes in absurd (omega (arith, e, o));
       empties = λ e. absurd (true≢false (sym e ∙ hit l false (has_emptied l v.log)));
+      stores = λ stored has. ((λ b taken. absurd (may.stored b taken)), (λ b c taken. absurd (may.stored b taken)));
     }
 
     pub may_commit : (s : View) → s ≡ begun → MayCommit s (reversal l) reply.Done
@@ -166,6 +168,11 @@ module _ (k : Shape) (l : ℕ) (v : View) (possible : ∥ IsReachable v ∥₁) 
       pub wrote : seen_writes s ≤ number → (g : ℕ) (w : View) → w ≡ view_after (StopWrite l g) c → Wrote (reversal l) reply.Done number v w × (root_in (held_words l w) ≡ 0)
       wrote seen g w stopped = wrote_begun number snap c committed_begun is_at (subst (λ (z : View). seen_writes z ≤ number) is_begun seen) g w stopped
 
+-- no step of it makes a box
+pub writes_merged : (l : ℕ) (v s c w : View) (f n g : ℕ) (snap : Snap) → s ≡ view_after (StartWrite l f) v → c ≡ view_after (Commit (reversal l) reply.Done n snap) s → w ≡ view_after (StopWrite l g) c → HasMergedBoxes v.log → HasMergedBoxes w.log
+writes_merged l v s c w f n g snap started committed stopped merged b own =
+    merged b (ap (λ (z : View). made_state b z.log) (sym (stopped ∙ (ap (view_after (StopWrite l g)) committed ∙ ap (λ (z : View). view_after (StopWrite l g) (view_after (Commit (reversal l) reply.Done n snap) z)) started))) ∙ own)
+
 -- a load of the root leaves all that
 pub may_loaded : (k : Shape) (l : ℕ) (v w : View) → v.shape ≡ k → OnlyLoaded v w → MayReverse k l v → MayReverse k l w
 may_loaded k l v w shape only may =
@@ -178,6 +185,7 @@ may_loaded k l v w shape only may =
       even = λ p. only.work.pass.writes p ∙ may.even p;
       stands = subst (λ (z : ContainerWords × ContainerState). Represents k.texts z.0 z.1) (λ d. (sym h d, sym n d)) may.stands;
       owes = only.work.owes ∙ may.owes;
+      stored = λ b taken. may.stored b (sym (only.boxes.made.uses b) ∙ taken);
       left = subst (λ (z : ℕ). 0 < z) (sym only.work.left) may.left;
     }
 
@@ -185,6 +193,29 @@ may_loaded k l v w shape only may =
 pub reversed_done : (l number : ℕ) (v w : View) → Reversed l number v w → IsDoneWithBoxes v.shape v.log → IsDoneWithBoxes w.shape w.log
 reversed_done l number v w r done =
     let loaded = done_same v r.loaded r.only.boxes done in
-    done_none r.loaded w
-    (fewer_named l r.loaded w r.wrote.loses (λ b. none_named b (kind_in w.shape.starts l) (held_words l w) r.still_bare ∙ sym (none_named b (kind_in r.loaded.shape.starts l) (held_words l r.loaded) r.bare)) (λ b. (loaded b).0))
-    r.wrote.made loaded
+    done_stays r.loaded w r.wrote.made
+    (fewer_named l r.loaded w r.wrote.loses (λ b. none_named b (kind_in w.shape.starts l) (held_words l w) r.still_bare ∙ sym (none_named b (kind_in r.loaded.shape.starts l) (held_words l r.loaded) r.bare)) loaded.none)
+    loaded
+
+-- ---- what a pass has to do with boxes
+
+abbrev pub IsDone : View → Type 0
+IsDone v = IsDoneWithBoxes v.shape v.log × HasMergedBoxes v.log
+
+-- a lock that is taken or let go leaves that
+step_done : (a : Act) (v w : View) → w ≡ view_after a v → SameMade v (view_after a v) → SameReferences v (view_after a v) → IsDone v → IsDone w
+step_done a v w is made references done =
+    subst IsDone (sym is) (done_as v (view_after a v) references made done.0, λ b own. done.1 b (sym (made.state b) ∙ own))
+
+pub lock_done : (l f : ℕ) (snap : Snap) (v w : View) → w ≡ view_after (Lock l f snap) v → IsDone v → IsDone w
+lock_done l f snap v w is =
+    step_done (Lock l f snap) v w is (record { state = λ b. refl; local = λ b. refl; taken = λ b. refl; places = λ b. refl; uses = λ b. refl }) (λ b. refl)
+
+pub unlock_done : (l : ℕ) (v w : View) → w ≡ view_after (Unlock l) v → IsDone v → IsDone w
+unlock_done l v w is =
+    step_done (Unlock l) v w is (record { state = λ b. refl; local = λ b. refl; taken = λ b. refl; places = λ b. refl; uses = λ b. refl }) (λ b. refl)
+
+-- and so does a list that was reversed, or loaded
+pub tried_done : (l : ℕ) (result : Option ℕ) (v w : View) → IfSome result (λ number. Reversed l number v w) → (result ≡ None → OnlyLoaded v w) → IsDone v → IsDone w
+tried_done l None v w some_ none done = let only = none refl in (done_same v w only.boxes done.0, λ b own. done.1 b (sym (only.boxes.made.state b) ∙ own))
+tried_done l (Some number) v w r none done = (reversed_done l number v w r done.0, r.merged done.1)

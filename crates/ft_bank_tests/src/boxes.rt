@@ -1,5 +1,5 @@
-//! A box from its making to its end: counted by its maker alone, and by two passes (PEP 703, "Biased Reference
-//! Counting").
+//! A box from its making to its end, which its maker alone counts: in the local count, and in the shared one once it has
+//! merged the box (PEP 703, "Biased Reference Counting").
 ghost use Rattle.std.specs.Prelude.{◌≡◌, ◌≢◌, ◌+◌, ◌-◌, ◌<◌, ◌^◌, true};
 ghost use Rattle.ft_bank.specs.NewPasses.{IsOpening};
 ghost use Rattle.ft_bank.specs.Passes.{shape_of, view, IsPassOf};
@@ -110,21 +110,6 @@ fn shared_word(bank: &Bank, pass: &mut Pass, count: u64) -> u64
     bank.read_box(pass, Ref { pass: 0, place: 5 }, SHARED)
 }
 
-/// A pass that didn't make the box raises the shared count, where the word is this one. The word as it was.
-fn raise_where(bank: &Bank, pass: &mut Pass, count: u64, old: u64) -> u64
-    requires pass { IsPassOf bank.now pass.old }
-    requires heap { HasPlace (shape_of bank.now) }
-    requires shared { SharesBox (shape_of bank.now) count (view pass.old).log }
-    requires few { count < 2 ^ 20 }
-    requires live { old ≢ 3 }
-    ensures pass { IsPassOf bank.now pass.new }
-    ensures raised { result ≡ old → SharesBox (shape_of bank.now) (count + 1) (view pass.new).log }
-    ensures left { result ≢ old → SharesBox (shape_of bank.now) count (view pass.new).log }
-{
-    let _ = count;
-    bank.raise_shared(pass, Ref { pass: 0, place: 5 }, old)
-}
-
 /// A pass that holds a reference counts one more. The shared word as it was.
 fn raise_again(bank: &Bank, pass: &mut Pass, count: u64) -> u64
     requires pass { IsPassOf bank.now pass.old }
@@ -174,24 +159,17 @@ fn a_box_of_one_pass_comes_to_its_end(rt: HostRuntime) -> Result<(), Fail> {
 }
 
 #[test]
-fn the_last_of_two_passes_gives_the_place_back(rt: HostRuntime) -> Result<(), Fail> {
+fn the_last_drop_gives_the_place_back(rt: HostRuntime) -> Result<(), Fail> {
     let alloc = rt.alloc();
-    let (bank, mut first, mut second) = bank_of_two(alloc, small(alloc)?)?;
-    assert_eq!(rt; shared_word(&bank, &mut second, 0), DEAD);
+    let (bank, mut first, _second) = bank_of_two(alloc, small(alloc)?)?;
     if !make_box(&bank, &mut first, 7) {
         return Err(Fail::from("the first heap is free"));
     }
-    if raise_where(&bank, &mut second, 0, 0) != 0 {
-        return Err(Fail::from("the box has no other reference"));
-    }
-    assert_eq!(rt; raise_again(&bank, &mut second, 1), 4);
-    assert_eq!(rt; drop_one(&bank, &mut second, 2), 8);
-    drop_own(&bank, &mut first, 1);
-    assert_eq!(rt; merge_box(&bank, &mut first, 0), 4);
-    assert_eq!(rt; drop_one(&bank, &mut second, 1), LAST);
+    assert_eq!(rt; merge_box(&bank, &mut first, 1), 0);
+    assert_eq!(rt; raise_again(&bank, &mut first, 1), LAST);
+    assert_eq!(rt; drop_one(&bank, &mut first, 2), 11);
+    assert_eq!(rt; drop_one(&bank, &mut first, 1), LAST);
+    assert_eq!(rt; shared_word(&bank, &mut first, 0), DEAD);
     assert_eq!(rt; free_places(&bank, &mut first), u64::MAX);
-    if raise_where(&bank, &mut second, 0, 0) != DEAD {
-        return Err(Fail::from("nobody raises a dead box"));
-    }
     Ok(())
 }

@@ -3,6 +3,7 @@ ghost use Rattle.std.specs.Prelude.{◌≡◌, ◌<◌, IfSome, None};
 ghost use Rattle.ft_model.specs.declared.call.Call.TheVariants as call;
 ghost use Rattle.ft_model.specs.declared.call.ListCall.TheVariants as list;
 ghost use Rattle.ft_model.specs.declared.reply.Reply.TheVariants as reply;
+ghost use Rattle.ft_trace.specs.Boxes.{HasMergedBoxes};
 ghost use Rattle.ft_trace.specs.Pictures.{root_in};
 ghost use Rattle.ft_trace.specs.Holds.{held_words};
 ghost use Rattle.ft_bank.specs.Passes.{shape_of, view, IsPassOf};
@@ -22,6 +23,7 @@ fn reverse(bank: &Bank, pass: &mut Pass, l: u32) -> u64
     ensures stack { stack_of pass.new ≡ stack_of pass.old }
     ensures wrote { Wrote (call.List l list.Reverse) reply.Done result (view pass.old) (view pass.new) }
     ensures still_bare { root_in (held_words l (view pass.new)) ≡ 0 }
+    ensures merged { HasMergedBoxes (view pass.old).log → HasMergedBoxes (view pass.new).log }
 {
     let called = Call::List {
         container: l,

@@ -16,7 +16,7 @@ use Rattle.ft_trace.specs.declared.View.{View}
 use Rattle.ft_trace.specs.Bits.{bit}
 use Rattle.ft_trace.specs.Acts.{view_after}
 use Rattle.ft_trace.specs.Addresses.{maker_of, place_in, place_bit_of, place_word_of, IsBoxName}
-use Rattle.ft_trace.specs.Boxes.{made_state, local_count, taken_out, place_to_give, references_held, times_kept, known_box_word, knows_box_word}
+use Rattle.ft_trace.specs.Boxes.{made_state, local_count, taken_out, place_to_give, place_use, references_held, times_kept, known_box_word, knows_box_word}
 use Rattle.ft_trace.specs.BoxTraces.{box_state, has_in_default, making_box, references, references_held_by}
 use Rattle.ft_trace.specs.BoxWords.{IsBoxedValue}
 use Rattle.ft_trace.specs.Traces.{run, IsReachable}
@@ -207,6 +207,7 @@ module _ (v x w : View) (b : Ref) (f g word : ℕ) (possible : ∥ IsReachable x
     local = λ c ne. ap (λ (z : View). local_count c z.log) loads;
     taken = λ c ne. ap (λ (z : View). taken_out c z.log) loads;
     places = λ c ne. ap (λ (z : View). place_to_give c z.log) loads;
+    uses = λ c ne. ap (λ (z : View). place_use c z.log) loads;
   }
 
   pub place_taken : w ≡ view_after (TakePlace n g) x → bit (place_bit_of n) g ≡ 1 → HasTakenPlace b v w
@@ -219,6 +220,7 @@ module _ (v x w : View) (b : Ref) (f g word : ℕ) (possible : ∥ IsReachable x
         was = ((λ z. unmade.1 (state ∙ z)), sym held ∙ unmade.2);
         making = ap (λ (z : View). made_state n z.log) takes ∙ (hit n (cond (eqb (bit (place_bit_of n) g) 1) 1 (made_state n x.log)) (made_state n x.log) ∙ here (bit (place_bit_of n) g) 1 1 (made_state n x.log) one);
         given = ap (λ (z : View). place_to_give n z.log) both;
+        uses = ap (λ (z : View). place_use n z.log) both ∙ (hit n (cond (eqb (bit (place_bit_of n) g) 1) (cond (eqb (place_use n v.log) 2) 2 1) (place_use n v.log)) (place_use n v.log) ∙ here (bit (place_bit_of n) g) 1 (cond (eqb (place_use n v.log) 2) 2 1) (place_use n v.log) one);
         others = leaves_then b v x w load_leaves (leaves_by b x w (TakePlace n g) tt refl takes);
         same = λ c. ap (λ (z : View). references_held z.shape c z.log) both;
       }

@@ -1,25 +1,28 @@
 -- What a step on one box leaves of the other boxes, of the references that the pass holds, and of the values that it knows.
-use Rattle.std.proofs.Common.{◌≡◌, ◌≢◌, ◌⊎◌, ℕ, ◌+◌, ◌-◌, ◌%◌, ◌^◌, ◌<◌, eqb, cond, List, ◌∷◌, refl, sym, ap, ◌∙◌, subst, inl, inr, arith}
+use Rattle.std.proofs.Common.{◌≡◌, ◌≢◌, ◌⊎◌, ℕ, ◌+◌, ◌-◌, ◌%◌, ◌^◌, ◌<◌, eqb, cond, List, ◌∷◌, ◌++◌, refl, sym, ap, ◌∙◌, subst, inl, inr, arith, append_assoc}
 use mathlib.Core.Logic.{dite}
 use native.Mathlib.Decide.{ℕ_discrete}
 use Rattle.ft_layout.specs.declared.slot.Ref.{Ref}
 use Rattle.ft_layout.specs.declared.slot.Stored.TheVariants.{Plain}
 use Rattle.ft_layout.specs.Words.{IsStored}
 use Rattle.ft_trace.specs.declared.Act.{Act}
-use Rattle.ft_trace.specs.declared.Act.TheVariants.{TakePlace, PutBox, PublishBox, ReadBox, RaiseLocal, DropLocal, ClearLocal, MergeCounts, RaiseShared, RaiseKept, DropShared, GivePlace}
+use Rattle.ft_trace.specs.declared.Act.TheVariants.{Commit, TakePlace, PutBox, PublishBox, ReadBox, RaiseLocal, DropLocal, ClearLocal, MergeCounts, RaiseShared, RaiseKept, DropShared, GivePlace}
 use Rattle.ft_trace.specs.declared.Shape.{Shape}
 use Rattle.ft_trace.specs.declared.View.{View}
 use Rattle.ft_trace.specs.Bits.{bit}
 use Rattle.ft_trace.specs.Addresses.{place_bit_of, IsBoxName}
 use Rattle.ft_trace.specs.Acts.{view_after}
-use Rattle.ft_trace.specs.Boxes.{made_state, made_state_next, local_count, local_count_next, taken_out, taken_out_next, place_to_give, place_to_give_next, references_held, times_kept, known_box_word, known_box_word_next, knows_box_word}
+use Rattle.ft_trace.specs.Boxes.{made_state, made_state_next, local_count, local_count_next, taken_out, taken_out_next, place_to_give, place_to_give_next, place_use, place_use_next, references_held, times_kept, known_box_word, known_box_word_next, knows_box_word, IsSettled}
 use Rattle.ft_trace.specs.BoxWords.{lowered_word}
+use Rattle.ft_trace.specs.SeenBoxes.{SawBox}
 use Rattle.ft_trace.proofs.BoxKnown.{sure_after, sure_stays}
 use Rattle.ft_trace.proofs.Cases.{here, miss}
 use Rattle.ft_bank.specs.BoxSteps.{box_id}
-use Rattle.ft_bank.specs.SameBoxes.{KnowsBoxes, SameMade, SameReferences}
+use Rattle.ft_bank.specs.Logs.{HasGrown}
+use Rattle.ft_bank.proofs.DoneBoxes.{none_taken}
+use Rattle.ft_bank.proofs.Logs.{newer_part}
+use Rattle.ft_bank.specs.SameBoxes.{KnowsBoxes, SameMade, SameReferences, TakesNoPlace}
 use Rattle.ft_boxes.specs.References.{HoldsBox, HoldsOneMore, HoldsOneLess, KeepsValues, LeavesOthers}
-use Rattle.ft_boxes.specs.Settled.{IsSettled}
 
 -- ---- other boxes
 
@@ -117,12 +120,28 @@ places_of (DropShared b f) on c n ne = other b c (cond (eqb (lowered_word f) 3) 
 places_of (GivePlace b) on c n ne = other b c 0 n ne
 places_of a on c n ne = absurd on
 
+uses_of : (a : Act) → IsOnBox a → (c n : ℕ) → c ≢ box_in a → place_use_next c a n ≡ n
+uses_of (TakePlace b f) on c n ne = other b c (cond (eqb (bit (place_bit_of b) f) 1) (cond (eqb n 2) 2 1) n) n ne
+uses_of (PutBox b i x) on c n ne = refl
+uses_of (PublishBox b) on c n ne = refl
+uses_of (ReadBox b i f) on c n ne = refl
+uses_of (RaiseLocal b x) on c n ne = refl
+uses_of (DropLocal b x) on c n ne = refl
+uses_of (ClearLocal b) on c n ne = refl
+uses_of (MergeCounts b d f) on c n ne = refl
+uses_of (RaiseShared b old f) on c n ne = refl
+uses_of (RaiseKept b f) on c n ne = refl
+uses_of (DropShared b f) on c n ne = refl
+uses_of (GivePlace b) on c n ne = other b c (cond (eqb n 1) 0 n) n ne
+uses_of a on c n ne = absurd on
+
 leaves : (b : Ref) (v : View) (a : Act) → IsOnBox a → box_in a ≡ box_id b → LeavesOthers b v (view_after a v)
 leaves b v a on is = record {
   state = λ c ne. state_of a on c (made_state c v.log) (λ z. ne (z ∙ is));
   local = λ c ne. local_of a on c (local_count c v.log) (λ z. ne (z ∙ is));
   taken = λ c ne. taken_of a on c (local_count c v.log) (taken_out c v.log) (λ z. ne (z ∙ is));
   places = λ c ne. places_of a on c (place_to_give c v.log) (λ z. ne (z ∙ is));
+  uses = λ c ne. uses_of a on c (place_use c v.log) (λ z. ne (z ∙ is));
 }
 
 pub leaves_by : (b : Ref) (v w : View) (a : Act) → IsOnBox a → box_in a ≡ box_id b → w ≡ view_after a v → LeavesOthers b v w
@@ -134,10 +153,84 @@ leaves_then b u v w first then = record {
   local = λ c ne. then.local c ne ∙ first.local c ne;
   taken = λ c ne. then.taken c ne ∙ first.taken c ne;
   places = λ c ne. then.places c ne ∙ first.places c ne;
+  uses = λ c ne. then.uses c ne ∙ first.uses c ne;
 }
 
 pub leaves_same : (b : Ref) (v w : View) → SameMade v w → LeavesOthers b v w
-leaves_same b v w same = record { state = λ c ne. same.state c; local = λ c ne. same.local c; taken = λ c ne. same.taken c; places = λ c ne. same.places c }
+leaves_same b v w same = record { state = λ c ne. same.state c; local = λ c ne. same.local c; taken = λ c ne. same.taken c; places = λ c ne. same.places c; uses = λ c ne. same.uses c }
+
+-- ---- places
+
+-- a step that takes no place leaves none taken that wasn't
+abbrev pub IsNotTake : Act → Type 0
+IsNotTake (TakePlace b f) = ⊥
+IsNotTake act = Unit {0}
+
+was_taken : (c : ℕ) (a : Act) → IsNotTake a → (n : ℕ) → place_use_next c a n ≡ 1 → n ≡ 1
+was_taken c (TakePlace b f) on n taken = absurd on
+was_taken c (Commit called said f s) on n taken = absurd (none_taken n taken)
+was_taken c (GivePlace b) on n taken =
+    dite (ℕ_discrete b c)
+    (λ (is : b ≡ c).
+    let now : cond (eqb n 1) 0 n ≡ 1 = sym (here b c (cond (eqb n 1) 0 n) n is) ∙ taken in
+    dite (ℕ_discrete n 1) (λ (one : n ≡ 1). one) (λ ne. sym (miss n 1 0 n ne) ∙ now))
+    (λ ne. sym (miss b c (cond (eqb n 1) 0 n) n ne) ∙ taken)
+was_taken c act on n taken = taken
+
+pub takes_none : (v w : View) (a : Act) → IsNotTake a → w ≡ view_after a v → TakesNoPlace v w
+takes_none v w a on did b taken = was_taken b a on (place_use b v.log) (sym (ap (λ (z : View). place_use b z.log) did) ∙ taken)
+
+pub places_then : (u v w : View) → TakesNoPlace u v → TakesNoPlace v w → TakesNoPlace u w
+places_then u v w first then b taken = first b (then b taken)
+
+pub places_same : (v w : View) → SameMade v w → TakesNoPlace v w
+places_same v w same b taken = sym (same.uses b) ∙ taken
+
+-- ---- names
+
+later : (l newer parts m : List Act) → l ≡ parts ++ m → newer ++ l ≡ (newer ++ parts) ++ m
+later l newer parts m is = ap (λ (x : List Act). newer ++ x) is ∙ sym (append_assoc newer parts m)
+
+saw_later : (k : Shape) (b : ℕ) (l newer : List Act) → SawBox k b l → SawBox k b (newer ++ l)
+saw_later k b l newer (inl saw) = inl (record {
+  o = saw.o;
+  t = saw.t;
+  p = saw.p;
+  container = saw.container;
+  row = saw.row;
+  version = saw.version;
+  even = saw.even;
+  newer = newer ++ saw.newer;
+  mid = saw.mid;
+  walk = saw.walk;
+  rest = saw.rest;
+  is = later l newer saw.newer _ saw.is;
+  online = saw.online;
+  names = saw.names;
+})
+saw_later k b l newer (inr saw) = inr (record {
+  o = saw.o;
+  t = saw.t;
+  p = saw.p;
+  container = saw.container;
+  row = saw.row;
+  mid = saw.mid;
+  between = record {
+    version = saw.between.version;
+    even = saw.between.even;
+    newer = newer ++ saw.between.newer;
+    rest = saw.between.rest;
+    is = later l newer saw.between.newer _ saw.between.is;
+  };
+  root = saw.root;
+  names = saw.names;
+})
+
+-- a pass that has read the name of a box has read it still
+pub saw_then : (k : Shape) (b : ℕ) (v w : View) → HasGrown v w → SawBox k b v.log → SawBox k b w.log
+saw_then k b v w grown saw =
+    let part = newer_part v w grown in
+    subst (SawBox k b) (sym part.1) (saw_later k b v.log part.0 saw)
 
 -- ---- references
 
@@ -232,16 +325,8 @@ keeps_self v b value held still knows = knows
 
 -- ---- what a pass is settled in
 
-pub settled_same : (v w : View) → SameMade v w → IsSettled v → IsSettled w
-settled_same v w same was = record {
-  unmade = λ c z. was.unmade c (sym (same.state c) ∙ z);
-  counted = λ c z. subst (λ (n : ℕ). 0 < n) (sym (same.local c)) (was.counted c (sym (same.state c) ∙ z));
-  whole = λ c z. same.taken c ∙ was.whole c (sym (same.state c) ∙ z);
-  given = λ c. same.places c ∙ was.given c;
-}
-
 -- it is settled where it was, but for one box, and this one is so now
-pub settled_by : (b : Ref) (v w : View) → LeavesOthers b v w → IsSettled v → made_state (box_id b) w.log ≢ 1 → (made_state (box_id b) w.log ≡ 2 → (0 < local_count (box_id b) w.log) × (taken_out (box_id b) w.log ≡ 0)) → place_to_give (box_id b) w.log ≡ 0 → IsSettled w
+pub settled_by : (b : Ref) (v w : View) → LeavesOthers b v w → IsSettled v.log → made_state (box_id b) w.log ≢ 1 → (made_state (box_id b) w.log ≡ 2 → (0 < local_count (box_id b) w.log) × (taken_out (box_id b) w.log ≡ 0)) → place_to_give (box_id b) w.log ≡ 0 → IsSettled w.log
 settled_by b v w leaves was unmade counted given = record {
   unmade = λ c. by_box c (λ n. made_state n w.log ≢ 1) unmade (λ ne z. was.unmade c (sym (leaves.state c ne) ∙ z));
   counted = λ c. by_box c (λ n. made_state n w.log ≡ 2 → 0 < local_count n w.log) (λ z. (counted z).0) (λ ne z. subst (λ (n : ℕ). 0 < n) (sym (leaves.local c ne)) (was.counted c (sym (leaves.state c ne) ∙ z)));

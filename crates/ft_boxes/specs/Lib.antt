@@ -1,6 +1,5 @@
 pub mod Internal
 pub mod References
-pub mod Settled
 pub mod Making
 pub mod Raising
 pub mod Merging

@@ -1,12 +1,13 @@
 -- The references that a pass holds for boxes, and how calls change them. (PEP 703, "Biased Reference Counting")
-use Rattle.std.specs.Prelude.{◌≡◌, ◌≢◌, ℕ, ◌+◌, ◌<◌, ◌==◌, true, cond}
+use Rattle.std.specs.Prelude.{◌≡◌, ◌≢◌, ℕ, ◌+◌, ◌<◌, ◌==◌, true, false, cond}
 use Rattle.ft_layout.specs.declared.slot.Ref.{Ref}
 use Rattle.ft_layout.specs.declared.slot.Stored.TheVariants.{Plain}
 use Rattle.ft_layout.specs.Starts.{kind_word, payload_word}
 use Rattle.ft_layout.specs.Words.{IsStored}
 use Rattle.ft_model.specs.declared.data.Value.{Value}
 use Rattle.ft_trace.specs.declared.View.{View}
-use Rattle.ft_trace.specs.Boxes.{made_state, local_count, taken_out, place_to_give, references_held, known_box_word, knows_box_word}
+use Rattle.ft_trace.specs.Acts.{is_writing}
+use Rattle.ft_trace.specs.Boxes.{made_state, local_count, taken_out, place_to_give, place_use, references_held, use_taken, known_box_word, knows_box_word}
 use Rattle.ft_bank.specs.BoxSteps.{box_id, IsBoxIn}
 use Rattle.ft_boxes.specs.declared.held.Held.{Held}
 
@@ -28,13 +29,21 @@ abbrev pub HoldsOneLess : Ref → View → View → Type 0
 HoldsOneLess b v w =
     (c : ℕ) → references_held v.shape c v.log ≡ references_held w.shape c w.log + cond (c == box_id b) 1 0
 
--- each other box that the pass made is in the same state, with the same counts, and it has the same other places to give
--- back
+-- each other box that the pass made is in the same state, with the same counts; it has the same other places to give back,
+-- and has taken and stored the same other ones
 pub record LeavesOthers (b : Ref) (v w : View) : Type 0 where
   pub state : (c : ℕ) → c ≢ box_id b → made_state c w.log ≡ made_state c v.log
   pub local : (c : ℕ) → c ≢ box_id b → local_count c w.log ≡ local_count c v.log
   pub taken : (c : ℕ) → c ≢ box_id b → taken_out c w.log ≡ taken_out c v.log
   pub places : (c : ℕ) → c ≢ box_id b → place_to_give c w.log ≡ place_to_give c v.log
+  pub uses : (c : ℕ) → c ≢ box_id b → place_use c w.log ≡ place_use c v.log
+
+-- Where the pass held the last reference for a box whose place it had taken, and writes no container, the place is given
+-- back, or the box was stored by a write before.
+abbrev pub LeavesNoTaken : Ref → View → View → Type 0
+LeavesNoTaken b v w =
+    ((o : ℕ) → is_writing o v.log ≡ false) → references_held w.shape (box_id b) w.log ≡ 0
+    → place_use (box_id b) w.log ≢ use_taken
 
 -- the pass knows the value in the box
 pub record KnowsValue (b : Ref) (value : Value) (v : View) : Type 0 where

@@ -1,9 +1,11 @@
 //! Boxes are made: a free place of the pass's own heap is taken, the value and the local count are put there, and the
 //! shared word last.
-ghost use Rattle.std.specs.Prelude.{◌≡◌, ◌≢◌, ◌/◌, ◌<◌, IfSome, IfNone};
+ghost use Rattle.std.specs.Prelude.{◌≡◌, ◌≢◌, ℕ, ◌/◌, ◌<◌, false, IfSome, IfNone};
 ghost use Rattle.ft_layout.specs.declared.slot.Stored.TheVariants.{Plain};
 ghost use Rattle.ft_layout.specs.Words.{FitsStored};
 ghost use Rattle.ft_model.specs.declared.data.Value.TheVariants as values;
+ghost use Rattle.ft_trace.specs.Acts.{is_writing};
+ghost use Rattle.ft_trace.specs.Boxes.{IsSettled};
 ghost use Rattle.ft_bank.specs.BoxSteps.{IsBoxIn, IsMaking};
 ghost use Rattle.ft_bank.specs.Passes.{shape_of, view, IsPassOf};
 ghost use Rattle.ft_bank.specs.PassSections.{stack_of};
@@ -12,7 +14,6 @@ ghost use Rattle.ft_bank.specs.Whole.{OnlyBoxed};
 ghost use Rattle.ft_boxes.specs.Internal.Places.{FoundWordFull, HasFilled, HasTakenPlace};
 ghost use Rattle.ft_boxes.specs.Making.{FoundHeapFull, Makes};
 ghost use Rattle.ft_boxes.specs.References.{KeepsValues};
-ghost use Rattle.ft_boxes.specs.Settled.{IsSettled};
 
 use crate::held::{Held, Made};
 use ft_bank::{Bank, Pass};
@@ -28,19 +29,20 @@ const PAYLOAD: u64 = 2;
 
 const LOCAL: u64 = 3;
 
-/// Makes a box of a value that isn't `None`, at the first free place of the pass's own heap: the pass holds its one
-/// reference. It loads the words of bits of the heap up to the first that has a free place, takes the place by one
-/// locked step, and puts four words.
+/// Makes a box of a value that isn't `None`, at the first free place of the pass's own heap, while the pass writes no
+/// container: it holds the box's one reference. It loads the words of bits of the heap up to the first that has a free
+/// place, takes the place by one locked step, and puts four words.
 ///
 /// `HeapFull` comes only where each word of bits of the heap was 0 when this call loaded it, and no place was taken.
 pub fn make(bank: &Bank, pass: &mut Pass, value: Value) -> Made
     requires pass { IsPassOf bank.now pass.old }
-    requires settled { IsSettled (view pass.old) }
+    requires settled { IsSettled (view pass.old).log }
     requires few { HoldsFew (view pass.old) }
+    requires idle { (o : ℕ) → is_writing o (view pass.old).log ≡ false }
     requires value { value ≢ values.Nothing }
     ensures pass { IsPassOf bank.now pass.new }
     ensures sections { stack_of pass.new ≡ stack_of pass.old }
-    ensures settled { IsSettled (view pass.new) }
+    ensures settled { IsSettled (view pass.new).log }
     ensures only { OnlyBoxed (view pass.old) (view pass.new) }
     ensures made { Makes value (view pass.old) (view pass.new) result }
     ensures values { KeepsValues (view pass.old) (view pass.new) }
@@ -58,7 +60,8 @@ pub fn make(bank: &Bank, pass: &mut Pass, value: Value) -> Made
 /// Takes the first free place of the pass's own heap, if there is one.
 fn take_free(bank: &Bank, pass: &mut Pass) -> Option<Ref>
     requires pass { IsPassOf bank.now pass.old }
-    requires settled { IsSettled (view pass.old) }
+    requires settled { IsSettled (view pass.old).log }
+    requires idle { (o : ℕ) → is_writing o (view pass.old).log ≡ false }
     ensures pass { IsPassOf bank.now pass.new }
     ensures sections { stack_of pass.new ≡ stack_of pass.old }
     ensures only { OnlyBoxed (view pass.old) (view pass.new) }
@@ -79,7 +82,8 @@ fn take_free(bank: &Bank, pass: &mut Pass) -> Option<Ref>
 /// Takes the first free place that a word of bits of the pass's own heap has, if it has one.
 fn take_in(bank: &Bank, pass: &mut Pass, word: u32) -> Option<Ref>
     requires pass { IsPassOf bank.now pass.old }
-    requires settled { IsSettled (view pass.old) }
+    requires settled { IsSettled (view pass.old).log }
+    requires idle { (o : ℕ) → is_writing o (view pass.old).log ≡ false }
     requires word { word < (shape_of bank.now).heap / 64 }
     ensures pass { IsPassOf bank.now pass.new }
     ensures sections { stack_of pass.new ≡ stack_of pass.old }

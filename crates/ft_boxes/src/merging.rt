@@ -1,15 +1,14 @@
 //! Boxes are merged: what their maker has counted alone goes to the shared count (PEP 703, "Biased Reference Counting").
 ghost use Rattle.std.specs.Prelude.{◌≡◌, ◌≢◌, ◌⊎◌, ℕ, ◌+◌, IsTrue, false};
-ghost use Rattle.ft_trace.specs.Boxes.{made_state, references_held, state_merged, IsDoneWithBoxes};
+ghost use Rattle.ft_trace.specs.Boxes.{made_state, state_merged, IsSettled};
 ghost use Rattle.ft_bank.specs.BoxSteps.{box_id, IsBoxIn, IsOwn, IsShared};
 ghost use Rattle.ft_bank.specs.Passes.{shape_of, view, IsPassOf};
 ghost use Rattle.ft_bank.specs.PassSections.{stack_of};
-ghost use Rattle.ft_bank.specs.SameBoxes.{SameReferences};
+ghost use Rattle.ft_bank.specs.SameBoxes.{SameReferences, TakesNoPlace};
 ghost use Rattle.ft_bank.specs.Whole.{OnlyBoxed, OnlyLoaded};
 ghost use Rattle.ft_boxes.specs.Internal.Merges.{HasTakenOut, IsSettledBut};
 ghost use Rattle.ft_boxes.specs.Merging.{FoundCounts, LeavesNoIdleBox, MergesAll, MergesIdleBoxes};
 ghost use Rattle.ft_boxes.specs.References.{KeepsValues, LeavesOthers};
-ghost use Rattle.ft_boxes.specs.Settled.{IsSettled};
 
 use ft_bank::{Bank, Pass};
 use ft_layout::Ref;
@@ -68,9 +67,10 @@ pub(crate) fn merge(bank: &Bank, pass: &mut Pass, b: Ref)
     ensures pass { IsPassOf bank.now pass.new }
     ensures sections { stack_of pass.new ≡ stack_of pass.old }
     ensures only { OnlyBoxed (view pass.old) (view pass.new) }
-    ensures settled { IsSettled (view pass.new) }
+    ensures settled { IsSettled (view pass.new).log }
     ensures merged { made_state (box_id b) (view pass.new).log ≡ state_merged }
     ensures others { LeavesOthers b (view pass.old) (view pass.new) }
+    ensures places { TakesNoPlace (view pass.old) (view pass.new) }
     ensures same { SameReferences (view pass.old) (view pass.new) }
     ensures values { KeepsValues (view pass.old) (view pass.new) }
 {
@@ -106,10 +106,10 @@ fn merge_if_idle(bank: &Bank, pass: &mut Pass, b: Ref)
     requires pass { IsPassOf bank.now pass.old }
     requires name { IsBoxIn (shape_of bank.now) b }
     requires maker { (view pass.old).number ≡ b.pass + 1 }
-    requires settled { IsSettled (view pass.old) }
+    requires settled { IsSettled (view pass.old).log }
     ensures pass { IsPassOf bank.now pass.new }
     ensures sections { stack_of pass.new ≡ stack_of pass.old }
-    ensures settled { IsSettled (view pass.new) }
+    ensures settled { IsSettled (view pass.new).log }
     ensures only { OnlyBoxed (view pass.old) (view pass.new) }
     ensures same { SameReferences (view pass.old) (view pass.new) }
     ensures values { KeepsValues (view pass.old) (view pass.new) }
@@ -117,6 +117,7 @@ fn merge_if_idle(bank: &Bank, pass: &mut Pass, b: Ref)
         (total : ℕ) × (total ≢ 0) × FoundCounts (box_id b) total (view pass.old) (view pass.new) }
     ensures merges { MergesIdleBoxes (view pass.old) (view pass.new) }
     ensures others { LeavesOthers b (view pass.old) (view pass.new) }
+    ensures places { TakesNoPlace (view pass.old) (view pass.new) }
 {
     if is_idle(bank, pass, b) {
         merge(bank, pass, b);
@@ -128,14 +129,15 @@ fn merge_if_idle(bank: &Bank, pass: &mut Pass, b: Ref)
 /// for each box in the default state.
 pub fn merge_idle(bank: &Bank, pass: &mut Pass)
     requires pass { IsPassOf bank.now pass.old }
-    requires settled { IsSettled (view pass.old) }
+    requires settled { IsSettled (view pass.old).log }
     ensures pass { IsPassOf bank.now pass.new }
     ensures sections { stack_of pass.new ≡ stack_of pass.old }
-    ensures settled { IsSettled (view pass.new) }
+    ensures settled { IsSettled (view pass.new).log }
     ensures only { OnlyBoxed (view pass.old) (view pass.new) }
     ensures same { SameReferences (view pass.old) (view pass.new) }
     ensures left { LeavesNoIdleBox (view pass.old) (view pass.new) }
     ensures merges { MergesIdleBoxes (view pass.old) (view pass.new) }
+    ensures places { TakesNoPlace (view pass.old) (view pass.new) }
     ensures values { KeepsValues (view pass.old) (view pass.new) }
 {
     let maker = pass.number();
@@ -148,35 +150,34 @@ pub fn merge_idle(bank: &Bank, pass: &mut Pass)
 fn merge_own(bank: &Bank, pass: &mut Pass, b: Ref)
     requires pass { IsPassOf bank.now pass.old }
     requires name { IsBoxIn (shape_of bank.now) b }
-    requires settled { IsSettled (view pass.old) }
+    requires settled { IsSettled (view pass.old).log }
     ensures pass { IsPassOf bank.now pass.new }
     ensures sections { stack_of pass.new ≡ stack_of pass.old }
-    ensures settled { IsSettled (view pass.new) }
+    ensures settled { IsSettled (view pass.new).log }
     ensures only { OnlyBoxed (view pass.old) (view pass.new) }
     ensures same { SameReferences (view pass.old) (view pass.new) }
     ensures values { KeepsValues (view pass.old) (view pass.new) }
     ensures shared { IsShared b (view pass.new) }
     ensures was { IsShared b (view pass.old) → made_state (box_id b) (view pass.new).log ≡ made_state (box_id b) (view pass.old).log }
     ensures others { LeavesOthers b (view pass.old) (view pass.new) }
+    ensures places { TakesNoPlace (view pass.old) (view pass.new) }
 {
     if is_own(bank, pass, b) {
         merge(bank, pass, b);
     }
 }
 
-/// Merges each box of the pass that is in the default state: what a pass does that leaves. One that holds no reference is
-/// done with boxes then.
+/// Merges each box of the pass that is in the default state: what a pass does that leaves.
 pub fn merge_all(bank: &Bank, pass: &mut Pass)
     requires pass { IsPassOf bank.now pass.old }
-    requires settled { IsSettled (view pass.old) }
+    requires settled { IsSettled (view pass.old).log }
     ensures pass { IsPassOf bank.now pass.new }
     ensures sections { stack_of pass.new ≡ stack_of pass.old }
-    ensures settled { IsSettled (view pass.new) }
+    ensures settled { IsSettled (view pass.new).log }
     ensures only { OnlyBoxed (view pass.old) (view pass.new) }
     ensures same { SameReferences (view pass.old) (view pass.new) }
     ensures merges { MergesAll (view pass.old) (view pass.new) }
-    ensures done { ((b : ℕ) → references_held (shape_of bank.now) b (view pass.old).log ≡ 0) →
-        IsDoneWithBoxes (shape_of bank.now) (view pass.new).log }
+    ensures places { TakesNoPlace (view pass.old) (view pass.new) }
     ensures values { KeepsValues (view pass.old) (view pass.new) }
 {
     let maker = pass.number();

@@ -1,1 +1,4 @@
-pub mod Holdings
+pub mod SeenItems
+pub mod SharedBoxes
+pub mod StillPasses
+pub mod Stores

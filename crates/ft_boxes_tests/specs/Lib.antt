@@ -1,2 +1,3 @@
-pub mod Holdings
+pub mod Counters
 pub mod OneBox
+pub mod Seeing

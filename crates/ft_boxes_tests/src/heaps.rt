@@ -1,82 +1,75 @@
 //! A heap whose places are all taken, and a place that comes back once both passes have let its box go.
-ghost use Rattle.ft_bank.specs.Passes.{shape_of, view, IsPassOf};
+ghost use Rattle.std.specs.Prelude.{IfSome};
+ghost use Rattle.ft_trace.specs.Boxes.{IsSettled};
+ghost use Rattle.ft_bank.specs.Passes.{view, IsPassOf};
 ghost use Rattle.ft_boxes.specs.References.{HoldsBox, box_of};
-ghost use Rattle.ft_boxes.specs.Settled.{IsSettled};
-ghost use Rattle.ft_boxes_tests.specs.Holdings.{HoldsUpTo, IfUp, MayHoldMore};
+ghost use Rattle.ft_boxes_tests.specs.Counters.{HasOneList, IsCaller, IsCounter};
 
-use crate::banks::small;
+use crate::banks::{Ready, ready_bank};
+use crate::counting::{find_box, go_online};
+use crate::storing::{overwrite, store_boxes};
 use ft_bank::{Bank, Pass};
-use ft_bank_tests::bank_of_two;
-use ft_boxes::{Made, Raised, keep, make, new_passes_are_settled, raise, release};
+use ft_boxes::{Held, Made, Raised, make, raise, release, value};
 use ft_model::{Sym, Value};
 use std::test::Fail;
 
-/// Makes boxes of an integer that are never let go, at most this many, and answers how many it made.
-fn fill(bank: &Bank, pass: &mut Pass, most: u32) -> u32
-    requires pass { IsPassOf bank.now pass.old }
-    requires settled { IsSettled (view pass.old) }
-    requires may { MayHoldMore most (view pass.old) }
-    ensures pass { IsPassOf bank.now pass.new }
-    ensures settled { IsSettled (view pass.new) }
-    ensures more { HoldsUpTo most (view pass.old) (view pass.new) }
+/// Makes a box of a string and lets it go again, if the pass's heap has a place for it. Says whether it had.
+fn can_make(bank: &Bank, pass: &mut Pass) -> bool
+    requires { IsCaller bank.now pass.old }
+    ensures { IsCaller bank.now pass.new }
 {
-    let mut made = 0;
-    for _ in 0..most {
-        match make(bank, pass, Value::Int(1000)) {
-            Made::Up(held) => {
-                keep(bank, pass, held);
-                made += 1;
-            }
-            Made::HeapFull => {}
-        }
-    }
-    made
-}
-
-/// Makes a box of a string at the last place of the first pass's heap, has the second pass raise it, and lets both
-/// references go. Says whether the heap was full in between, and had the one place again in the end.
-fn has_one_place(bank: &Bank, first: &mut Pass, second: &mut Pass) -> bool
-    requires passes { IsPassOf bank.now first.old × IsPassOf bank.now second.old }
-    requires settled { IsSettled (view first.old) × IsSettled (view second.old) }
-    requires may { MayHoldMore 1000 (view first.old) × MayHoldMore 1000 (view second.old) }
-    ensures passes { IsPassOf bank.now first.new × IsPassOf bank.now second.new }
-{
-    match make(bank, first, Value::Text(Sym(7))) {
+    match make(bank, pass, Value::Text(Sym(7))) {
         Made::Up(held) => {
-            let full = fill(bank, first, 1) == 0;
-            let raised = raise(bank, second, held.at());
-            release(bank, first, held);
-            let kept = fill(bank, first, 1) == 0;
-            let shared = drop_raised(bank, second, raised);
-            full && shared && kept && fill(bank, first, 2) == 1
+            release(bank, pass, held);
+            true
         }
         Made::HeapFull => false,
     }
 }
 
-/// Lets a reference go, if the raise gave one, and says whether it did.
-fn drop_raised(bank: &Bank, pass: &mut Pass, raised: Raised) -> bool
-    requires pass { IsPassOf bank.now pass.old }
-    requires settled { IsSettled (view pass.old) }
-    requires held { IfUp raised (λ held. HoldsBox (box_of held) (view pass.old)) }
+/// Raises the box that an item of the list has. Nothing where it has none, or the box wasn't raised.
+fn raise_at(bank: &Bank, pass: &mut Pass, index: u32) -> Option<Held>
+    requires list { HasOneList bank.now }
+    requires counter { IsCounter bank.now pass.old }
     ensures pass { IsPassOf bank.now pass.new }
+    ensures settled { IsSettled (view pass.new).log }
+    ensures held { IfSome result (λ held. HoldsBox (box_of held) (view pass.new)) }
 {
-    match raised {
-        Raised::Up(held) => {
-            release(bank, pass, held);
-            true
-        }
-        Raised::Dead | Raised::Moved(_, _) => false,
+    let b = find_box(bank, pass, index)?;
+    match raise(bank, pass, b) {
+        Raised::Up(held) => Some(held),
+        Raised::Dead | Raised::Moved(_, _) => None,
     }
 }
 
 #[test]
-fn the_last_place_comes_back(rt: HostRuntime) -> Result<(), Fail> {
-    let alloc = rt.alloc();
-    let (bank, mut first, mut second) = bank_of_two(alloc, small(alloc, 2)?)?;
-    new_passes_are_settled(&bank, &first);
-    new_passes_are_settled(&bank, &second);
-    assert_eq!(rt; fill(&bank, &mut first, 63), 63);
-    assert!(rt; has_one_place(&bank, &mut first, &mut second));
+fn a_place_comes_back_once_both_passes_let_go(rt: HostRuntime) -> Result<(), Fail> {
+    let Ready {
+        bank,
+        mut first,
+        mut second,
+        third: _,
+        mut fourth,
+    } = ready_bank(rt.alloc())?;
+    if !store_boxes(&bank, &mut first, 64) {
+        return Err(Fail::from("the first heap has 64 places"));
+    }
+    assert_eq!(rt; bank.read_free_places(&mut fourth, 0, 0), 0);
+    assert!(rt; !can_make(&bank, &mut first));
+    go_online(&bank, &mut second);
+    let Some(held) = raise_at(&bank, &mut second, 63) else {
+        return Err(Fail::from("item 63 has a box"));
+    };
+    // The first pass drops the list's reference, the last that it counted itself.
+    if !overwrite(&bank, &mut first, 63) {
+        release(&bank, &mut second, held);
+        return Err(Fail::from("nobody else calls"));
+    }
+    assert_eq!(rt; bank.read_free_places(&mut fourth, 0, 0), 0);
+    assert!(rt; !can_make(&bank, &mut first));
+    assert_eq!(rt; value(&bank, &mut second, &held), Value::Int(1063));
+    release(&bank, &mut second, held);
+    assert_eq!(rt; bank.read_free_places(&mut fourth, 0, 0), 1 << 63);
+    assert!(rt; can_make(&bank, &mut first));
     Ok(())
 }

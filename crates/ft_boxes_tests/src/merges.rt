@@ -1,49 +1,69 @@
-//! A raise beside a merge: the steps of two passes on one box, in the orders in which they may fall (PEP 703, "Biased
-//! Reference Counting").
-ghost use Rattle.std.specs.Prelude.{◌≡◌, ◌≢◌, ◌+◌, ◌-◌, ◌<◌, ◌^◌, IfSome};
-ghost use Rattle.ft_bank.specs.BoxSteps.{IsBoxIn};
+//! A raise beside a merge, and a shared count below 0: the steps of passes on one box that a list has, in the orders in
+//! which they may fall (PEP 703, "Biased Reference Counting").
+ghost use Rattle.std.specs.Prelude.{◌≡◌, ◌≢◌, ◌+◌, ◌-◌, ◌<◌, ◌^◌, IfOk, OnOk, IfSome, IsTrue};
+ghost use Rattle.ft_trace.specs.SeenBoxes.{SawBox};
+ghost use Rattle.ft_bank.specs.BoxSteps.{box_id, IsBoxIn};
 ghost use Rattle.ft_bank.specs.Passes.{shape_of, view, IsPassOf};
-ghost use Rattle.ft_bank.specs.NewPasses.{IsOpening};
+ghost use Rattle.ft_boxes_tests.specs.Counters.{HasOneList, IsCaller, IsCounter};
 ghost use Rattle.ft_boxes_tests.specs.OneBox.{OwnsBox, SharesBox};
 
-use crate::banks::small;
+use crate::banks::{Ready, ready_bank};
+use crate::counting::{find_box, go_online};
+use crate::storing::{overwrite, store_boxes};
 use ft_bank::{Bank, Pass};
-use ft_bank_tests::bank_of_two;
-use ft_boxes::{Made, keep, make, new_passes_are_settled};
+use ft_boxes::merge_idle;
 use ft_layout::Ref;
-use ft_model::Value;
 use std::test::Fail;
 
 /// Which words of a box the shared word and the local count are.
 const SHARED: u64 = 0;
 
 const LOCAL: u64 = 3;
-/// The shared word of a merged box with one reference, and of a dead one.
+/// What the shared word has for one reference; that of a merged box with one reference, and of a dead one.
+const UNIT: u64 = 4;
+
 const LAST: u64 = 7;
 
 const DEAD: u64 = 3;
 
-/// A new pass makes a box of an integer, whose local count is 1 then. Nothing where its heap is full.
-fn make_one(bank: &Bank, pass: &mut Pass) -> Option<Ref>
-    requires opening { IsOpening bank.now 0 pass.old }
+/// Whether the pass made the box, which is in the default state, and has this local count.
+fn is_counted(bank: &Bank, pass: &mut Pass, b: Ref, count: u64) -> bool
+    requires may { IsCaller bank.now pass.old }
+    requires name { IsBoxIn (shape_of bank.now) b }
     ensures pass { IsPassOf bank.now pass.new }
-    ensures own { IfSome result (λ b. OwnsBox (shape_of bank.now) b 1 0 (view pass.new).log) }
+    ensures own { IsTrue result → OwnsBox (shape_of bank.now) b count 0 (view pass.new).log }
 {
-    new_passes_are_settled(bank, pass);
-    match make(bank, pass, Value::Int(1000)) {
-        Made::Up(held) => Some(keep(bank, pass, held)),
-        Made::HeapFull => None,
+    if b.pass != pass.number() || bank.read_box(pass, b, SHARED) % UNIT != 0 {
+        return false;
     }
+    bank.read_box(pass, b, LOCAL) == count
 }
 
-/// A pass that has taken no step holds no reference for a box of another.
-fn comes_new(bank: &Bank, pass: &Pass, b: Ref)
-    requires opening { IsOpening bank.now 1 pass.now }
-    requires name { IsBoxIn (shape_of bank.now) b }
-    ensures shared { SharesBox (shape_of bank.now) b 0 (view pass.now).log }
+/// The box of item 0, if another pass made it: a pass that has seen its name holds no reference for it.
+fn see_other(bank: &Bank, pass: &mut Pass) -> Option<Ref>
+    requires list { HasOneList bank.now }
+    requires counter { IsCounter bank.now pass.old }
+    ensures pass { IsPassOf bank.now pass.new }
+    ensures shared { IfSome result (λ b. SharesBox (shape_of bank.now) b 0 (view pass.new).log) }
 {
-    let _ = bank;
-    let _ = b;
+    let b = find_box(bank, pass, 0)?;
+    if b.pass == pass.number() {
+        return None;
+    }
+    read_shared(bank, pass, b);
+    Some(b)
+}
+
+/// Loads the shared word of a box of another pass.
+fn read_shared(bank: &Bank, pass: &mut Pass, b: Ref) -> u64
+    requires counter { IsCounter bank.now pass.old }
+    requires name { IsBoxIn (shape_of bank.now) b }
+    requires other { (view pass.old).number ≢ b.pass + 1 }
+    requires saw { SawBox (shape_of bank.now) (box_id b) (view pass.old).log }
+    ensures pass { IsPassOf bank.now pass.new }
+    ensures shared { SharesBox (shape_of bank.now) b 0 (view pass.new).log }
+{
+    bank.read_box(pass, b, SHARED)
 }
 
 /// Loads a word of the box, by a pass that shares it.
@@ -74,8 +94,7 @@ fn end_merge(bank: &Bank, pass: &mut Pass, b: Ref, count: u64) -> u64
     requires pass { IsPassOf bank.now pass.old }
     requires own { OwnsBox (shape_of bank.now) b 0 count (view pass.old).log }
     requires few { count < 2 ^ 20 }
-    ensures pass { IsPassOf bank.now pass.new }
-    ensures shared { SharesBox (shape_of bank.now) b count (view pass.new).log }
+    ensures { IsPassOf bank.now pass.new }
 {
     bank.merge_counts(pass, b, count)
 }
@@ -110,14 +129,37 @@ fn drop_one(bank: &Bank, pass: &mut Pass, b: Ref, count: u64) -> u64
     found
 }
 
+/// The first pass stores a box in the one item of the list, where the second sees its name.
+fn store_and_see(bank: &Bank, first: &mut Pass, second: &mut Pass) -> Result<Ref, Fail>
+    requires list { HasOneList bank.now }
+    requires may { IsCaller bank.now first.old × IsCaller bank.now second.old }
+    ensures passes { OnOk result (IsPassOf bank.now first.new × IsPassOf bank.now second.new) }
+    ensures own { IfOk result (λ b. OwnsBox (shape_of bank.now) b 1 0 (view first.new).log) }
+    ensures shared { IfOk result (λ b. SharesBox (shape_of bank.now) b 0 (view second.new).log) }
+{
+    if !store_boxes(bank, first, 1) {
+        return Err(Fail::from("the first heap is free"));
+    }
+    go_online(bank, second);
+    let Some(b) = see_other(bank, second) else {
+        return Err(Fail::from("item 0 has a box of the first pass"));
+    };
+    if !is_counted(bank, first, b, 1) {
+        return Err(Fail::from("the list has the one reference, which its maker counted"));
+    }
+    Ok(b)
+}
+
 #[test]
 fn a_merge_before_the_exchange_leaves_the_raise_undone(rt: HostRuntime) -> Result<(), Fail> {
-    let alloc = rt.alloc();
-    let (bank, mut first, mut second) = bank_of_two(alloc, small(alloc, 2)?)?;
-    let Some(b) = make_one(&bank, &mut first) else {
-        return Err(Fail::from("the first heap is free"));
-    };
-    comes_new(&bank, &second, b);
+    let Ready {
+        bank,
+        mut first,
+        mut second,
+        mut third,
+        mut fourth,
+    } = ready_bank(rt.alloc())?;
+    let b = store_and_see(&bank, &mut first, &mut second)?;
     assert_eq!(rt; read_word(&bank, &mut second, b, 0, SHARED), 0);
     begin_merge(&bank, &mut first, b, 1);
     assert_eq!(rt; end_merge(&bank, &mut first, b, 1), 0);
@@ -125,20 +167,25 @@ fn a_merge_before_the_exchange_leaves_the_raise_undone(rt: HostRuntime) -> Resul
         return Err(Fail::from("the box has been merged"));
     }
     assert_eq!(rt; read_word(&bank, &mut second, b, 0, SHARED), LAST);
-    assert_eq!(rt; drop_one(&bank, &mut first, b, 1), LAST);
+    // A third pass drops the list's reference, which is the last one.
+    if !overwrite(&bank, &mut third, 0) {
+        return Err(Fail::from("nobody else calls"));
+    }
     assert_eq!(rt; read_word(&bank, &mut second, b, 0, SHARED), DEAD);
-    assert_eq!(rt; bank.read_free_places(&mut first, 0, 0), u64::MAX);
+    assert_eq!(rt; bank.read_free_places(&mut fourth, 0, 0), u64::MAX);
     Ok(())
 }
 
 #[test]
 fn a_raise_within_a_merge_is_counted(rt: HostRuntime) -> Result<(), Fail> {
-    let alloc = rt.alloc();
-    let (bank, mut first, mut second) = bank_of_two(alloc, small(alloc, 2)?)?;
-    let Some(b) = make_one(&bank, &mut first) else {
-        return Err(Fail::from("the first heap is free"));
-    };
-    comes_new(&bank, &second, b);
+    let Ready {
+        bank,
+        mut first,
+        mut second,
+        mut third,
+        mut fourth,
+    } = ready_bank(rt.alloc())?;
+    let b = store_and_see(&bank, &mut first, &mut second)?;
     assert_eq!(rt; read_word(&bank, &mut second, b, 0, LOCAL), 1);
     begin_merge(&bank, &mut first, b, 1);
     assert_eq!(rt; read_word(&bank, &mut second, b, 0, LOCAL), 0);
@@ -147,10 +194,43 @@ fn a_raise_within_a_merge_is_counted(rt: HostRuntime) -> Result<(), Fail> {
     }
     assert_eq!(rt; end_merge(&bank, &mut first, b, 1), 4);
     assert_eq!(rt; read_word(&bank, &mut second, b, 1, SHARED), 11);
-    assert_eq!(rt; drop_one(&bank, &mut first, b, 1), 11);
-    assert_eq!(rt; bank.read_free_places(&mut first, 0, 0), u64::MAX - 1);
+    if !overwrite(&bank, &mut third, 0) {
+        return Err(Fail::from("nobody else calls"));
+    }
+    assert_eq!(rt; read_word(&bank, &mut second, b, 1, SHARED), LAST);
+    assert_eq!(rt; bank.read_free_places(&mut fourth, 0, 0), u64::MAX - 1);
     assert_eq!(rt; drop_one(&bank, &mut second, b, 1), LAST);
     assert_eq!(rt; read_word(&bank, &mut second, b, 0, SHARED), DEAD);
-    assert_eq!(rt; bank.read_free_places(&mut first, 0, 0), u64::MAX);
+    assert_eq!(rt; bank.read_free_places(&mut fourth, 0, 0), u64::MAX);
+    Ok(())
+}
+
+#[test]
+fn a_shared_count_below_0_is_merged(rt: HostRuntime) -> Result<(), Fail> {
+    let Ready {
+        bank,
+        mut first,
+        mut second,
+        third: _,
+        mut fourth,
+    } = ready_bank(rt.alloc())?;
+    if !store_boxes(&bank, &mut first, 1) {
+        return Err(Fail::from("the first heap is free"));
+    }
+    go_online(&bank, &mut second);
+    let Some(b) = find_box(&bank, &mut second, 0) else {
+        return Err(Fail::from("item 0 has a box"));
+    };
+    // The second pass drops the list's reference, which the first counts.
+    if !overwrite(&bank, &mut second, 0) {
+        return Err(Fail::from("nobody else calls"));
+    }
+    assert_eq!(rt; bank.read_box(&mut fourth, b, SHARED), u64::MAX - 3);
+    assert_eq!(rt; bank.read_box(&mut fourth, b, LOCAL), 1);
+    assert_eq!(rt; bank.read_free_places(&mut fourth, 0, 0), u64::MAX - 1);
+    merge_idle(&bank, &mut first);
+    assert_eq!(rt; bank.read_box(&mut fourth, b, SHARED), DEAD);
+    assert_eq!(rt; bank.read_box(&mut fourth, b, LOCAL), 0);
+    assert_eq!(rt; bank.read_free_places(&mut fourth, 0, 0), u64::MAX);
     Ok(())
 }

@@ -1,18 +1,14 @@
-//! Four passes in a thread each raise and drop ten boxes of the first, over and over.
-ghost use Rattle.std.specs.Prelude.{◌≡◌, IfOk};
-ghost use Rattle.ft_bank.specs.BoxSteps.{IsBoxIn};
-ghost use Rattle.ft_bank.specs.Passes.{shape_of, view, IsPassOf};
-ghost use Rattle.ft_bank.specs.SameBoxes.{HoldsFew, SameReferences};
-ghost use Rattle.ft_boxes.specs.Settled.{IsSettled};
-ghost use Rattle.ft_boxes_tests.specs.Holdings.{AreCounters, AreNames, HoldsEach, IsCounter, MayHoldMore};
+//! Four passes in a thread each raise and drop the boxes of ten items of a list, over and over.
+ghost use Rattle.std.specs.Prelude.{◌≡◌};
+ghost use Rattle.ft_bank.specs.Passes.{shape_of};
+ghost use Rattle.ft_boxes_tests.specs.Counters.{AreCounters, HasOneList, IsCaller, IsCounter};
 
-use crate::banks::{four, small};
+use crate::banks::{Ready, ready_bank};
+use crate::counting::{find_box, go_online};
+use crate::storing::{FIRST, clear, store_boxes};
 use ft_bank::{Bank, Pass};
-use ft_bank_tests::bank_of;
-use ft_boxes::{Made, Raised, keep, make, new_passes_are_settled, raise, release, taken, value};
-use ft_layout::Ref;
+use ft_boxes::{Raised, raise, release, value};
 use ft_model::Value;
-use std::alloc::{AllocError, Global};
 use std::test::Fail;
 use std::thread;
 use std::thread::Threads;
@@ -22,175 +18,175 @@ const BOXES: u32 = 10;
 
 const ROUNDS: usize = 2_500;
 
-/// The value of the first box; that of each other one is greater by 1 than the one before.
-const FIRST: i64 = 1000;
-
-/// Makes ten boxes. Fewer where the heap is full.
-fn make_ten(alloc: Global, bank: &Bank, pass: &mut Pass) -> Result<Vec<Ref>, AllocError>
-    requires pass { IsPassOf bank.now pass.old }
-    requires settled { IsSettled (view pass.old) }
-    requires may { MayHoldMore 1000 (view pass.old) }
-    ensures pass { IsPassOf bank.now pass.new }
-    ensures settled { IsSettled (view pass.new) }
-    ensures few { HoldsFew (view pass.new) }
-    ensures held { IfOk result (λ boxes. HoldsEach boxes.items (view pass.new)) }
-    ensures names { IfOk result (λ boxes. AreNames (shape_of bank.now) boxes.items) }
-{
-    let mut boxes = Vec::new(alloc);
-    for number in 0..BOXES {
-        match make(bank, pass, Value::Int(FIRST + i64::from(number))) {
-            Made::Up(held) => {
-                let b = keep(bank, pass, held);
-                boxes.push(b)?;
-            }
-            Made::HeapFull => {}
-        }
-    }
-    Ok(boxes)
+/// How many visits raised the box and found what they should, and how many found what they shouldn't.
+#[derive(Clone, Copy)]
+struct Tally {
+    raised: u32,
+    wrong: u32,
 }
 
-/// Raises a box and drops it again. Says whether it was alive and had this value.
-fn visit(bank: &Bank, pass: &mut Pass, b: Ref, expected: i64) -> bool
+impl Tally {
+    /// No visit.
+    const NONE: Tally = Tally {
+        raised: 0,
+        wrong: 0,
+    };
+
+    /// These and others.
+    fn with(self, other: Tally) -> Tally {
+        Tally {
+            raised: self.raised.saturating_add(other.raised),
+            wrong: self.wrong.saturating_add(other.wrong),
+        }
+    }
+
+    /// One visit that raised the box, or found it dead.
+    fn of_visit(right: bool) -> Tally {
+        Tally {
+            raised: u32::from(right),
+            wrong: u32::from(!right),
+        }
+    }
+}
+
+/// Sees the box of an item anew, raises it and drops it again. A raised box has the item's value.
+fn visit(bank: &Bank, pass: &mut Pass, index: u32) -> Tally
+    requires list { HasOneList bank.now }
     requires counter { IsCounter bank.now pass.old }
-    requires name { IsBoxIn (shape_of bank.now) b }
     ensures counter { IsCounter bank.now pass.new }
-    ensures same { SameReferences (view pass.old) (view pass.new) }
 {
+    let Some(b) = find_box(bank, pass, index) else {
+        // Another pass wrote the item in between.
+        return Tally::NONE;
+    };
     match raise(bank, pass, b) {
         Raised::Up(held) => {
             let found = value(bank, pass, &held);
             release(bank, pass, held);
-            found == Value::Int(expected)
+            Tally::of_visit(found == Value::Int(FIRST + i64::from(index)))
         }
-        Raised::Dead => false,
+        Raised::Dead => Tally::of_visit(false),
         // Another pass changed the count in between.
-        Raised::Moved(_, _) => true,
+        Raised::Moved(_, _) => Tally::NONE,
     }
 }
 
-/// That many visits, one box after the other. How many of them found what they shouldn't.
-fn work(bank: &Bank, pass: &mut Pass, boxes: &[Ref], rounds: usize) -> u32
+/// Visits each box once.
+fn visit_each(bank: &Bank, pass: &mut Pass) -> Tally
+    requires list { HasOneList bank.now }
     requires counter { IsCounter bank.now pass.old }
-    requires names { AreNames (shape_of bank.now) boxes.now }
     ensures counter { IsCounter bank.now pass.new }
-    ensures same { SameReferences (view pass.old) (view pass.new) }
 {
-    let mut wrong = 0u32;
-    for _ in 0..rounds {
-        let mut expected = FIRST;
-        for b in boxes {
-            if !visit(bank, pass, *b, expected) {
-                wrong = wrong.saturating_add(1);
-            }
-            expected = expected.wrapping_add(1);
-        }
+    let mut tally = Tally::NONE;
+    for index in 0..BOXES {
+        tally = tally.with(visit(bank, pass, index));
     }
-    wrong
+    tally
 }
 
-/// The same for a pass of the caller's own, which it gets back.
-fn work_with(bank: &Bank, mut pass: Pass, boxes: &[Ref], rounds: usize) -> (Pass, u32)
+/// So many rounds of that, by a pass which the caller gets back.
+fn work(bank: &Bank, mut pass: Pass, rounds: usize) -> (Pass, Tally)
+    requires list { HasOneList bank.now }
     requires counter { IsCounter bank.now pass }
-    requires names { AreNames (shape_of bank.now) boxes.now }
-    ensures counter { IsCounter bank.now result.0 }
-    ensures same { SameReferences (view pass) (view result.0) }
+    ensures { IsCounter bank.now result.0 }
 {
-    let wrong = work(bank, &mut pass, boxes, rounds);
-    (pass, wrong)
+    let mut tally = Tally::NONE;
+    for _ in 0..rounds {
+        tally = tally.with(visit_each(bank, &mut pass));
+    }
+    (pass, tally)
 }
 
-/// Two passes work in a thread each. The first comes back.
-fn work_in_two<R: Threads>(
-    rt: &R,
-    bank: &Bank,
-    pair: (Pass, Pass),
-    boxes: &[Ref],
-    rounds: usize,
-) -> (Pass, u32)
+/// What the first of two passes found, and whatever the other found wrong.
+fn with_wrong(ours: Tally, theirs: Tally) -> Tally {
+    Tally {
+        raised: ours.raised,
+        wrong: ours.wrong.saturating_add(theirs.wrong),
+    }
+}
+
+/// Two passes work in a thread each. The first comes back, with its tally and what the other found wrong.
+fn work_in_two<R: Threads>(rt: &R, bank: &Bank, pair: (Pass, Pass), rounds: usize) -> (Pass, Tally)
+    requires list { HasOneList bank.now }
     requires counters { AreCounters bank.now pair }
-    requires names { AreNames (shape_of bank.now) boxes.now }
-    ensures counter { IsCounter bank.now result.0 }
-    ensures same { SameReferences (view pair.0) (view result.0) }
+    ensures { IsCounter bank.now result.0 }
 {
     let (first, second) = pair;
     let ((first, ours), (_second, theirs)) = thread::join(
         rt,
-        move || -> (Pass, u32)
-            requires { IsCounter bank.now first × AreNames (shape_of bank.now) boxes.now }
-            ensures { IsCounter bank.entry.now result.0 × SameReferences (view first) (view result.0) }
-        { work_with(bank, first, boxes, rounds) },
-        move || -> (Pass, u32)
-            requires { IsCounter bank.now second × AreNames (shape_of bank.now) boxes.now }
-            ensures { IsCounter bank.entry.now result.0 × SameReferences (view second) (view result.0) }
-        { work_with(bank, second, boxes, rounds) },
+        move || -> (Pass, Tally)
+            requires { HasOneList bank.now × IsCounter bank.now first }
+            ensures { IsCounter bank.entry.now result.0 }
+        { work(bank, first, rounds) },
+        move || -> (Pass, Tally)
+            requires { HasOneList bank.now × IsCounter bank.now second }
+            ensures { IsCounter bank.entry.now result.0 }
+        { work(bank, second, rounds) },
     );
-    (first, ours.saturating_add(theirs))
+    (first, with_wrong(ours, theirs))
 }
 
-/// Four passes work in a thread each. The first comes back.
+/// Four passes work in a thread each. The first comes back, with its tally and what the others found wrong.
 fn work_in_four<R: Threads + Sync>(
     rt: &R,
     bank: &Bank,
     one: (Pass, Pass),
     other: (Pass, Pass),
-    boxes: &[Ref],
     rounds: usize,
-) -> (Pass, u32)
+) -> (Pass, Tally)
+    requires list { HasOneList bank.now }
     requires ones { AreCounters bank.now one }
     requires others { AreCounters bank.now other }
-    requires names { AreNames (shape_of bank.now) boxes.now }
-    ensures counter { IsCounter bank.now result.0 }
-    ensures same { SameReferences (view one.0) (view result.0) }
+    ensures { IsCounter bank.now result.0 }
 {
     let ((first, ours), (_third, theirs)) = thread::join(
         rt,
-        move || -> (Pass, u32)
-            requires { AreCounters bank.now one × AreNames (shape_of bank.now) boxes.now }
-            ensures { IsCounter bank.entry.now result.0 × SameReferences (view one.0) (view result.0) }
-        { work_in_two(rt, bank, one, boxes, rounds) },
-        move || -> (Pass, u32)
-            requires { AreCounters bank.now other × AreNames (shape_of bank.now) boxes.now }
-            ensures { IsCounter bank.entry.now result.0 × SameReferences (view other.0) (view result.0) }
-        { work_in_two(rt, bank, other, boxes, rounds) },
+        move || -> (Pass, Tally)
+            requires { HasOneList bank.now × AreCounters bank.now one }
+            ensures { IsCounter bank.entry.now result.0 }
+        { work_in_two(rt, bank, one, rounds) },
+        move || -> (Pass, Tally)
+            requires { HasOneList bank.now × AreCounters bank.now other }
+            ensures { IsCounter bank.entry.now result.0 }
+        { work_in_two(rt, bank, other, rounds) },
     );
-    (first, ours.saturating_add(theirs))
+    (first, with_wrong(ours, theirs))
 }
 
-/// Lets go of the reference for each of these boxes.
-fn drop_each(bank: &Bank, pass: &mut Pass, boxes: Vec<Ref>)
-    requires counter { IsCounter bank.now pass.old }
-    requires held { HoldsEach boxes.items (view pass.old) }
-    ensures counter { IsCounter bank.now pass.new }
+/// The bits of the first pass's heap, of which one is set for each free place.
+fn free_places(bank: &Bank, pass: &mut Pass) -> u64
+    requires places { ((shape_of bank.now).passes ≡ 4) × ((shape_of bank.now).heap ≡ 64) }
+    requires may { IsCaller bank.now pass.old }
+    ensures may { IsCaller bank.now pass.new }
 {
-    let mut left = boxes;
-    while let Some(b) = left.pop() {
-        let held = taken(bank, pass, b);
-        release(bank, pass, held);
-    }
+    bank.read_free_places(pass, 0, 0)
 }
 
 #[test]
 fn ten_boxes_are_counted_by_four_passes(rt: HostRuntime) -> Result<(), Fail> {
-    let alloc = rt.alloc();
-    let (bank, passes) = bank_of(alloc, small(alloc, 4)?)?;
-    let (mut first, second, third, fourth) = four(&bank, passes)?;
-    new_passes_are_settled(&bank, &first);
-    new_passes_are_settled(&bank, &second);
-    new_passes_are_settled(&bank, &third);
-    new_passes_are_settled(&bank, &fourth);
-    let made = make_ten(alloc, &bank, &mut first)?;
-    let boxes = made.as_slice();
-    let (mut first, wrong) = work_in_four(
-        &rt,
-        &bank,
-        (first, second),
-        (third, fourth),
-        boxes,
-        ROUNDS,
-    );
-    assert_eq!(rt; wrong, 0);
-    assert_eq!(rt; bank.read_free_places(&mut first, 0, 0).count_ones(), 54);
-    drop_each(&bank, &mut first, made);
-    assert_eq!(rt; bank.read_free_places(&mut first, 0, 0), u64::MAX);
+    let Ready {
+        bank,
+        mut first,
+        mut second,
+        mut third,
+        mut fourth,
+    } = ready_bank(rt.alloc())?;
+    if !store_boxes(&bank, &mut first, BOXES) {
+        return Err(Fail::from("the first heap has 64 places"));
+    }
+    go_online(&bank, &mut first);
+    go_online(&bank, &mut second);
+    go_online(&bank, &mut third);
+    go_online(&bank, &mut fourth);
+    let (mut first, tally) = work_in_four(&rt, &bank, (first, second), (third, fourth), ROUNDS);
+    assert_eq!(rt; tally.wrong, 0);
+    // Its maker counts each box alone, and nobody writes the list meanwhile.
+    assert_eq!(rt; tally.raised, 25_000);
+    // The list has each box still.
+    assert_eq!(rt; free_places(&bank, &mut first), u64::MAX - 1023);
+    if !clear(&bank, &mut first) {
+        return Err(Fail::from("nobody else calls"));
+    }
+    assert_eq!(rt; free_places(&bank, &mut first), u64::MAX);
     Ok(())
 }

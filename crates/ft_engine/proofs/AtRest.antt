@@ -3,6 +3,7 @@ use Rattle.std.proofs.Common.{◌≡◌, ◌≢◌, ◌≤◌, ◌+◌, ℕ, Boo
 use Rattle.std.specs.Prelude.{max, if◌then◌else◌, ◌⊎◌}
 use Rattle.std.proofs.Math.Logic.{∥∥₁_elim}
 use Rattle.std.proofs.Math.Nat.{le-max_left, le-max_right, max-le, ℕ_set}
+use Rattle.ft_trace.specs.Boxes.{HasMergedBoxes}
 use Rattle.ft_trace.specs.declared.Act.TheVariants.{ReadCounter, TakeFloor}
 use Rattle.ft_trace.specs.declared.Shape.{Shape}
 use Rattle.ft_trace.specs.declared.Snap.{Snap}
@@ -28,7 +29,7 @@ use Rattle.ft_engine.specs.Resting.{HandsOn, HasFloor, IsAsBefore, IsRestDone, I
 use Rattle.ft_engine.proofs.Callers.{HasSame, ready_of, steady_caller, steady_kept, steady_work}
 use Rattle.ft_engine.proofs.GivingUp.{in_call_of}
 use Rattle.ft_engine.proofs.KeptLists.{TakesIn}
-use Rattle.ft_engine.proofs.PassesAfter.{IsSteady}
+use Rattle.ft_engine.proofs.PassesAfter.{same_done, IsSteady}
 
 -- ---- what a pass knows
 
@@ -65,7 +66,8 @@ gathered_steady v t n blank s =
       cursors = λ k. refl;
       owners = record { had = refl; found = refl };
       seen = le_trans (seen_both v u) (seen_up (ReadCounter n) (both v u));
-      still = record { even = s.even; hands = s.hands; used = s.used; owes = s.owes; flight = s.flight; boxes = s.boxes; stands = s.stands };
+      merged = λ merged. merged;
+      still = record { even = s.even; hands = s.hands; used = s.used; owes = s.owes; flight = s.flight; boxes = same_done s.boxes (λ b. refl) (λ b. refl) (λ b. refl) (λ b. refl) (λ b. refl) (λ b. refl); stands = s.stands };
     })
 
 -- it has taken the floor
@@ -83,7 +85,8 @@ floored_steady v n snap s = record {
   cursors = λ k. refl;
   owners = record { had = refl; found = refl };
   seen = seen_up (TakeFloor n snap) v;
-  still = record { even = s.even; hands = s.hands; used = s.used; owes = s.owes; flight = s.flight; boxes = s.boxes; stands = s.stands };
+  merged = λ merged. merged;
+  still = record { even = s.even; hands = s.hands; used = s.used; owes = s.owes; flight = s.flight; boxes = same_done s.boxes (λ b. refl) (λ b. refl) (λ b. refl) (λ b. refl) (λ b. refl) (λ b. refl); stands = s.stands };
 }
 
 -- it had given its tokens away, has taken others, and the floor
@@ -104,7 +107,8 @@ woken_steady v t k n snap blank s =
       cursors = λ j. refl;
       owners = record { had = refl; found = refl };
       seen = le_trans (seen_both (sender k v) u) (seen_up (TakeFloor n snap) (both (sender k v) u));
-      still = record { even = s.even; hands = s.hands; used = s.used; owes = s.owes; flight = s.flight; boxes = s.boxes; stands = s.stands };
+      merged = λ merged. merged;
+      still = record { even = s.even; hands = s.hands; used = s.used; owes = s.owes; flight = s.flight; boxes = same_done s.boxes (λ b. refl) (λ b. refl) (λ b. refl) (λ b. refl) (λ b. refl) (λ b. refl); stands = s.stands };
     })
 
 -- ---- a caller
@@ -193,7 +197,7 @@ rest_free e c r is at_rest done =
     let locks : (o : ℕ) → has_lock o v.log ≡ false = λ o.
     no_lock (has_lock o v.log) (sym (ap (λ sections. noted_in o sections + taken_in o nothing_taken) none) ∙ (sym (ap (λ own. noted_in o (stack_of c.pass).sections + taken_in o own) ready.own) ∙ ready.inside.1.locks o)) in
     let offline = sym (ap (λ (z : View). announces z.log) at_rest.pass) ∙ done.offline in
-    subst IsFree (sym at_rest.pass) (locks, s.hands, s.used, s.flight, s.owes, offline, s.boxes)
+    subst IsFree (sym at_rest.pass) (locks, s.hands, s.used, s.flight, s.owes, offline, s.boxes, subst (λ (z : View). HasMergedBoxes z.log) at_rest.pass done.merged)
 
 pub rest_in : (v w : View) (c : Caller) (r : RestingCaller) (n : ℕ) → RestsAs c r → w ≡ view_after (ReadCounter n) (both v (rests r.pass)) → TakesIn v (view c.pass) w
 rest_in v w c r n at_rest is =

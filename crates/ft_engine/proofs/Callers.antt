@@ -322,6 +322,7 @@ steady_work c d same stack steady = record {
   made = same.made;
   flight = same.flight;
   seen = steady.seen;
+  merged = steady.merged;
 }
 
 pub same_but_pass : (c : Caller) (q : Pass) → HasSame c (record c { pass = q })

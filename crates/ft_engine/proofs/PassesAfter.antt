@@ -7,15 +7,18 @@ use Rattle.ft_trace.specs.declared.Shape.{Shape}
 use Rattle.ft_trace.specs.declared.Told.{Told}
 use Rattle.ft_trace.specs.declared.Presence.TheVariants as presence
 use Rattle.ft_trace.specs.declared.View.{View}
-use Rattle.ft_trace.specs.Acts.{both, hands_over, has_lock, is_handed, view_after, seen_writes, shown, stage, presence_after_announcing}
+use Rattle.ft_trace.specs.Acts.{both, hands_over, has_lock, is_handed, mem, past, view_after, seen_writes, shown, stage, presence_after_announcing}
 use Rattle.ft_trace.specs.Addresses.{container_count}
 use Rattle.ft_trace.specs.Floors.{at_floor}
 use Rattle.ft_trace.specs.Hands.{cursor_in}
 use Rattle.ft_trace.specs.Holds.{held_unboxed, known_state}
 use Rattle.ft_trace.specs.Owners.{SameOwners}
 use Rattle.ft_trace.specs.BegunSections.{begun}
-use Rattle.ft_trace.specs.Pictures.{ContainerWords, Represents}
-use Rattle.ft_trace.specs.ContainerStates.{ContainerState}
+use Rattle.ft_trace.specs.Pictures.{ContainerWords, picture, Represents}
+use Rattle.ft_trace.specs.ContainerStates.{ContainerState, container_after}
+use Rattle.ft_trace.specs.declared.Act.{Act}
+use Rattle.ft_trace.specs.Boxes.{made_state, local_count, taken_out, place_to_give, place_use, references_held, HasMergedBoxes, IsDoneWithBoxes, IsSettled}
+use Rattle.ft_model.specs.declared.call.Call.{Call}
 use Rattle.ft_trace.proofs.Owning.{owners_then}
 use Rattle.ft_trace.proofs.Seeing.{seen_up}
 use Rattle.ft_bank.specs.declared.bank.Bank.{Bank}
@@ -25,7 +28,9 @@ use Rattle.ft_bank.specs.Logs.{HasGrown}
 use Rattle.ft_bank.specs.Notes.{knowing}
 use Rattle.ft_bank.specs.Passes.{view, IsPassOf}
 use Rattle.ft_bank.specs.PassSections.{Stack, stack_of}
-use Rattle.ft_bank.proofs.DoneBoxes.{done_same}
+use Rattle.ft_bank.specs.SameBoxes.{SameReferences, TakesNoPlace}
+use Rattle.ft_bank.specs.Whole.{OnlyBoxed}
+use Rattle.ft_bank.proofs.DoneBoxes.{done_same, settled_same}
 use Rattle.ft_bank.proofs.Logs.{noted_grown}
 use Rattle.ft_qsbr.specs.Collecting.{Collected, StaysOrGoes, loads_of}
 use Rattle.ft_qsbr.proofs.PassesStay.{begun_stays, collection_leaves, cursors_stay, floor_stays, given_or_kept, owners_stay, seen_stays, since_stays}
@@ -52,6 +57,7 @@ pub record IsSteady (v w : View) : Type 0 where
   pub cursors : (n : ℕ) → cursor_in n w.log ≡ cursor_in n v.log
   pub owners : SameOwners v w
   pub seen : seen_writes v ≤ seen_writes w
+  pub merged : HasMergedBoxes v.log → HasMergedBoxes w.log
   pub still : IsStill w
 
 -- it has the floor as before, too
@@ -71,10 +77,11 @@ pub record IsCalm (v w : View) : Type 0 where
   pub owners : SameOwners v w
   pub seen : seen_writes v ≤ seen_writes w
   pub grown : HasGrown v w
+  pub merged : HasMergedBoxes v.log → HasMergedBoxes w.log
   pub still : IsStill w
 
 pub calm_steady : (v w : View) → IsCalm v w → IsSteady v w
-calm_steady v w c = record { number = c.number; next = c.next; parts = c.parts; shape = c.shape; lists = c.lists; entries = c.entries; left = c.left; locks = c.locks; begun = c.begun; cursors = c.cursors; owners = c.owners; seen = c.seen; still = c.still }
+calm_steady v w c = record { number = c.number; next = c.next; parts = c.parts; shape = c.shape; lists = c.lists; entries = c.entries; left = c.left; locks = c.locks; begun = c.begun; cursors = c.cursors; owners = c.owners; seen = c.seen; merged = c.merged; still = c.still }
 
 -- what a pass is in still
 module _ (b : Bank) (p q : Pass) (pass : IsPassOf b q) (stack : stack_of q ≡ stack_of p) (steady : IsSteady (view p) (view q)) where
@@ -135,6 +142,7 @@ calm_then u v w a b = record {
   owners = owners_then u v w a.owners b.owners;
   seen = le_trans a.seen b.seen;
   grown = λ old was. b.grown old (a.grown old was);
+  merged = λ merged. b.merged (a.merged merged);
   still = b.still;
 }
 
@@ -145,6 +153,14 @@ stands_by v w s shape locks words o low has =
     let had : has_lock o v.log ≡ true = sym (locks o) ∙ has in
     let e = words o low' had in
     subst (λ (x : Shape × ContainerWords × ContainerState). Represents x.0.texts x.1 x.2) (λ d. (sym shape d, sym e.2 d, sym e.1 d)) (s.stands o low' had)
+
+-- what a pass has to do with boxes stays where its log says the same of them
+pub same_done : {k : Shape} {l m : List Act} → IsDoneWithBoxes k l → ((b : ℕ) → made_state b m ≡ made_state b l) → ((b : ℕ) → local_count b m ≡ local_count b l) → ((b : ℕ) → taken_out b m ≡ taken_out b l) → ((b : ℕ) → place_to_give b m ≡ place_to_give b l) → ((b : ℕ) → references_held k b m ≡ references_held k b l) → ((b : ℕ) → place_use b m ≡ place_use b l) → IsDoneWithBoxes k m
+same_done {k} {l} {m} done state local taken places held uses = record {
+  settled = settled_same l m state local taken places done.settled;
+  none = λ b. held b ∙ done.none b;
+  stored = λ b e. done.stored b (sym (uses b) ∙ e);
+}
 
 -- ---- one step
 
@@ -165,7 +181,8 @@ counted_calm v n s = record {
   owners = record { had = refl; found = refl };
   seen = seen_up (ReadCounter n) v;
   grown = λ old was. inr was;
-  still = record { even = s.even; hands = s.hands; used = s.used; owes = s.owes; flight = s.flight; boxes = s.boxes; stands = s.stands };
+  merged = λ merged. merged;
+  still = record { even = s.even; hands = s.hands; used = s.used; owes = s.owes; flight = s.flight; boxes = same_done s.boxes (λ b. refl) (λ b. refl) (λ b. refl) (λ b. refl) (λ b. refl) (λ b. refl); stands = s.stands };
 }
 
 pub offline_calm : (v : View) (m : ℕ) → IsStill v → IsCalm v (view_after (Announce m 0) v)
@@ -185,7 +202,8 @@ offline_calm v m s = record {
   owners = record { had = refl; found = refl };
   seen = seen_up (Announce m 0) v;
   grown = λ old was. inr was;
-  still = record { even = s.even; hands = s.hands; used = s.used; owes = s.owes; flight = s.flight; boxes = s.boxes; stands = s.stands };
+  merged = λ merged. merged;
+  still = record { even = s.even; hands = s.hands; used = s.used; owes = s.owes; flight = s.flight; boxes = same_done s.boxes (λ b. refl) (λ b. refl) (λ b. refl) (λ b. refl) (λ b. refl) (λ b. refl); stands = s.stands };
 }
 
 pub collected_calm : (v w : View) (freed : ℕ) → IsStill v → Collected v w freed → IsCalm v w
@@ -208,6 +226,7 @@ collected_calm v w freed s x =
       owners = subst (SameOwners v) (sym x.did) (owners_stay (x.acts ++ loads_of x.numbers) v leaves);
       seen = subst (λ (u : View). seen_writes v ≤ seen_writes u) (sym x.did) (seen_stays (x.acts ++ loads_of x.numbers) v);
       grown = noted_grown (x.acts ++ loads_of x.numbers) v w x.did;
+      merged = λ merged b own. merged b (sym (x.keeps.boxes.made.state b) ∙ own);
       still = record {
         even = λ o. keeps.writes o ∙ s.even o;
         hands = λ t.
@@ -220,6 +239,44 @@ collected_calm v w freed s x =
         flight = x.idle;
         boxes = done_same v w x.keeps.boxes s.boxes;
         stands = stands_by v w s keeps.shape keeps.locks keeps.words;
+      };
+    }
+
+-- it has taken steps with boxes
+pub boxed_calm : (v w : View) → IsStill v → OnlyBoxed v w → SameReferences v w → TakesNoPlace v w → IsSettled w.log → (HasMergedBoxes v.log → HasMergedBoxes w.log) → IsCalm v w
+boxed_calm v w s x references places settled merged =
+    let work = x.work in
+    let pass = work.pass in
+    let knows : (o : ℕ) → o < container_count v.shape → has_lock o v.log ≡ true → KnowsSame o v w = λ o low locked. (
+      ap (λ (k : Shape). picture k o (mem k w.log)) pass.shape ∙ ap (picture v.shape o) x.words,
+      ap (λ (k : Shape). container_after k.starts (past w.log) o) pass.shape ∙ ap (λ (cs : List Call). container_after v.shape.starts cs o) work.past,
+      x.unboxed o low locked,
+    ) in
+    record {
+      number = pass.number;
+      next = pass.next;
+      parts = pass.parts;
+      shape = pass.shape;
+      lists = pass.lists;
+      entries = work.entries;
+      left = work.left;
+      locks = pass.locks;
+      begun = pass.begun;
+      cursors = pass.cursors;
+      floor = pass.floor;
+      since = pass.since;
+      owners = pass.owners;
+      seen = pass.seen;
+      grown = pass.grown;
+      merged = merged;
+      still = record {
+        even = λ o. pass.writes o ∙ s.even o;
+        hands = λ t. subst (λ (n : ℕ). (n ≡ 0) ⊎ (n ≡ 4)) (sym (work.hands t)) (s.hands t);
+        used = work.used ∙ s.used;
+        owes = work.owes ∙ s.owes;
+        flight = pass.flight ∙ s.flight;
+        boxes = record { settled = settled; none = λ b. references b ∙ s.boxes.none b; stored = λ b e. s.boxes.stored b (places b e) };
+        stands = stands_by v w s pass.shape pass.locks knows;
       };
     }
 
@@ -240,6 +297,7 @@ same_calm v s = record {
   owners = record { had = refl; found = refl };
   seen = le_refl (seen_writes v);
   grown = λ old was. was;
+  merged = λ merged. merged;
   still = s;
 }
 
@@ -261,7 +319,8 @@ learnt_calm v m n told s = record {
   owners = record { had = refl; found = refl };
   seen = le_trans (max-le (le_trans (le-max_left v.learnt m) (le-max_left (max v.learnt m) (shown v.log))) (le-max_right (max v.learnt m) (shown v.log))) (seen_up (ReadCounter n) (knowing m told v));
   grown = λ old was. inr (inr was);
-  still = record { even = s.even; hands = s.hands; used = s.used; owes = s.owes; flight = s.flight; boxes = s.boxes; stands = s.stands };
+  merged = λ merged. merged;
+  still = record { even = s.even; hands = s.hands; used = s.used; owes = s.owes; flight = s.flight; boxes = same_done s.boxes (λ b. refl) (λ b. refl) (λ b. refl) (λ b. refl) (λ b. refl) (λ b. refl); stands = s.stands };
 }
 
 -- it has taken another pass in: it has the same sections and locks
@@ -270,7 +329,7 @@ over_or_was true n was = inr refl
 over_or_was false n was = was
 
 pub joined_still : (v u : View) (n : ℕ) → IsStill v → IsStill (view_after (ReadCounter n) (both v u))
-joined_still v u n s = record { even = s.even; hands = λ t. over_or_was (is_handed t (hands_over u.log)) (stage t v.log) (s.hands t); used = s.used; owes = s.owes; flight = s.flight; boxes = s.boxes; stands = s.stands }
+joined_still v u n s = record { even = s.even; hands = λ t. over_or_was (is_handed t (hands_over u.log)) (stage t v.log) (s.hands t); used = s.used; owes = s.owes; flight = s.flight; boxes = same_done s.boxes (λ b. refl) (λ b. refl) (λ b. refl) (λ b. refl) (λ b. refl) (λ b. refl); stands = s.stands }
 
 pub ready_joined : (b : Bank) (p q : Pass) (u : View) (n : ℕ) → IsReady b p → IsPassOf b q → stack_of q ≡ stack_of p → view q ≡ view_after (ReadCounter n) (both (view p) u) → IsReady b q
 ready_joined b p q u n r pass stack is =
@@ -303,7 +362,8 @@ enters_calm v n m s = record {
   owners = record { had = refl; found = refl };
   seen = le_trans (seen_up (WriteNumber n) v) (seen_up (Announce m n) (view_after (WriteNumber n) v));
   grown = λ old was. inr (inr was);
-  still = record { even = s.even; hands = s.hands; used = s.used; owes = s.owes; flight = s.flight; boxes = s.boxes; stands = s.stands };
+  merged = λ merged. merged;
+  still = record { even = s.even; hands = s.hands; used = s.used; owes = s.owes; flight = s.flight; boxes = same_done s.boxes (λ b. refl) (λ b. refl) (λ b. refl) (λ b. refl) (λ b. refl) (λ b. refl); stands = s.stands };
 }
 
 pub quiesced_calm : (v w : View) → IsStill v → (n : ℕ) × (freed : ℕ) × Collected (view_after (Announce v.number n) (view_after (WriteNumber n) v)) w freed → IsCalm v w

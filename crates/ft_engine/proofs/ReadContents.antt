@@ -227,6 +227,7 @@ loaded_steady v w l s = record {
   cursors = l.work.pass.cursors;
   owners = l.work.pass.owners;
   seen = l.work.pass.seen;
+  merged = λ merged b own. merged b (sym (l.boxes.made.state b) ∙ own);
   still = still_loaded v w l s;
 }
 

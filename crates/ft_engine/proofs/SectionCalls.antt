@@ -49,7 +49,7 @@ use Rattle.ft_engine.specs.Keeping.{made_entry, section_marks}
 use Rattle.ft_engine.specs.Stacks.{Opens}
 use Rattle.ft_engine.proofs.WaitCounts.{last_of}
 use Rattle.ft_engine.proofs.Within.{walked_none}
-use Rattle.ft_engine.proofs.PassesAfter.{IsCalm, ready_calm, stays_online}
+use Rattle.ft_engine.proofs.PassesAfter.{IsCalm, ready_calm, same_done, stays_online}
 use Rattle.ft_qsbr.proofs.PassesStay.{collection_leaves, presence_stays}
 
 -- ---- locks alone
@@ -275,7 +275,7 @@ pub ready_resumes : (b : Bank) (p : Pass) → IsReady b p → MayResume b p
 ready_resumes b p r = record { inside = r.inside; own = λ outer top split. inl r.own; none = λ nil. r.own }
 
 answered_still : (called : Call) (said : Reply) (n : ℕ) (v : View) → IsStill v → IsStill (answered_view called said n v)
-answered_still called said n v s = record { even = s.even; hands = s.hands; used = s.used; owes = s.owes; flight = s.flight; boxes = s.boxes; stands = s.stands }
+answered_still called said n v s = record { even = s.even; hands = s.hands; used = s.used; owes = s.owes; flight = s.flight; boxes = same_done s.boxes (λ b. refl) (λ b. refl) (λ b. refl) (λ b. refl) (λ b. refl) (λ b. refl); stands = s.stands }
 
 -- a call that opens and closes no section
 pub ready_answered : (called : Call) (said : Reply) (b : Bank) (q r : Pass) (n : ℕ) → begun (answered_view called said n (view q)).log ≡ begun (view q).log → IsReady b q → IsPassOf b r → stack_of r ≡ stack_of q → view r ≡ answered_view called said n (view q) → IsReady b r

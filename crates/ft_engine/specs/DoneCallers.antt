@@ -7,6 +7,7 @@ use Rattle.ft_model.specs.declared.script.ScriptParts.{ScriptParts}
 use Rattle.ft_model.specs.Numbers.{AreDone, AreNumberedLists, IsHistoryOf}
 use Rattle.ft_trace.specs.declared.Shape.{Shape}
 use Rattle.ft_trace.specs.Acts.{announces, told_in}
+use Rattle.ft_trace.specs.Boxes.{HasMergedBoxes}
 use Rattle.ft_trace.specs.Owners.{found_owners, had_locks}
 use Rattle.ft_bank.specs.Passes.{view}
 use Rattle.ft_bank.specs.PassSections.{stack_of}
@@ -16,11 +17,12 @@ use Rattle.ft_engine.specs.declared.caller.Caller.{Caller}
 use Rattle.ft_engine.specs.Callers.{IsIdle, taken_of, thread_of}
 use Rattle.ft_engine.specs.Keeping.{WasAnswered}
 
--- the caller has made its last call: it is in no call and in no section, and is offline
+-- the caller has made its last call: it is in no call and in no section, is offline, and has merged its boxes
 pub record IsCallerDone (c : Caller) : Type 0 where
   pub idle : IsIdle c
   pub sections : (stack_of c.pass).sections ≡ []
   pub offline : announces (view c.pass).log ≡ 0
+  pub merged : HasMergedBoxes (view c.pass).log
 
 -- The first of these lists has the entries that the caller was answered, and the others those of the callers that it
 -- took in, in the order of the threads.

@@ -3,6 +3,7 @@ use Rattle.std.specs.Prelude.{◌≡◌, ◌≢◌, ℕ, ◌≤◌, true, List, 
 use Rattle.ft_model.specs.declared.entry.Entry.{Entry as NamedEntry}
 use Rattle.ft_trace.specs.declared.View.{View}
 use Rattle.ft_trace.specs.Acts.{announces, floor_words, seen_writes, sender, presence_of}
+use Rattle.ft_trace.specs.Boxes.{HasMergedBoxes}
 use Rattle.ft_trace.specs.Floors.{at_floor}
 use Rattle.ft_bank.specs.declared.tokens.Tokens.{Tokens}
 use Rattle.ft_bank.specs.Floors.{IsRestingOf, carried, rests, stack_at_rest}
@@ -82,8 +83,9 @@ pub record IsWoken (t : Tokens) (d : Caller) : Type 0 where
   pub words : (carried t).floor ≢ [] → words_known d ≡ (carried t).floor
   pub seen : (carried t).learnt ≤ seen_writes (view d.pass)
 
--- a caller that rests has made its last call: it is in no call and in no section, and was offline
+-- a caller that rests has made its last call: it is in no call and in no section, was offline, and had merged its boxes
 pub record IsRestDone (r : RestingCaller) : Type 0 where
   pub idle : r.flight ≡ flight.Idle
   pub sections : (stack_at_rest r.pass).sections ≡ []
   pub offline : announces (rests r.pass).log ≡ 0
+  pub merged : HasMergedBoxes (rests r.pass).log

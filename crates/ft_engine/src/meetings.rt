@@ -3,6 +3,7 @@
 ghost use Rattle.std.specs.Prelude.{◌≡◌, ◌≤◌, ◌+◌, ◌++◌, List, length, suc};
 ghost use Rattle.ft_model.specs.declared.entry.Entry.{Entry as NamedEntry};
 ghost use Rattle.ft_trace.specs.Acts.{announces, own_told, presence_of, shown};
+ghost use Rattle.ft_trace.specs.Boxes.{HasMergedBoxes};
 ghost use Rattle.ft_bank.specs.Notes.{says, told_by, writes_seen, IsNoteOf};
 ghost use Rattle.ft_bank.specs.Passes.{view};
 ghost use Rattle.ft_bank.specs.PassSections.{stack_of};
@@ -64,8 +65,8 @@ impl Engine {
         self.bank.learn(&mut caller.pass, note);
     }
 
-    /// Takes in the next caller, which has made its last call: it is in no call and in no section, is offline, and
-    /// has the number that follows that of the last one that the caller took in.
+    /// Takes in the next caller, which has made its last call: it is in no call and in no section, has left, and has the
+    /// number that follows that of the last one that the caller took in.
     pub fn join(&self, caller: &mut Caller, other: Caller)
         requires caller { IsCallerOf self.now caller.old }
         requires idle { IsIdle caller.old }
@@ -77,6 +78,7 @@ impl Engine {
         ensures idle { IsIdle caller.new }
         ensures announced { announces (view (pass_of caller.new)).log ≡ announces (view (pass_of caller.old)).log }
         ensures presence { presence_of (view (pass_of caller.new)).log ≡ presence_of (view (pass_of caller.old)).log }
+        ensures merged { HasMergedBoxes (view (pass_of caller.old)).log → HasMergedBoxes (view (pass_of caller.new)).log }
         ensures sections { stack_of (pass_of caller.new) ≡ stack_of (pass_of caller.old) }
         ensures cursors { hands_of caller.new ≡ hands_of caller.old }
         ensures left { left_of caller.new ≡ left_of caller.old }

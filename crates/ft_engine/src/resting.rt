@@ -4,6 +4,7 @@
 ghost use Rattle.std.specs.Prelude.{◌≡◌, ◌≤◌, ◌+◌, ◌++◌, List, length, suc};
 ghost use Rattle.ft_model.specs.declared.entry.Entry.{Entry as NamedEntry};
 ghost use Rattle.ft_trace.specs.Acts.{announces, seen_writes, presence_of};
+ghost use Rattle.ft_trace.specs.Boxes.{HasMergedBoxes};
 ghost use Rattle.ft_bank.specs.Floors.{AreTokensOf, carried, rests};
 ghost use Rattle.ft_bank.specs.Notes.{writes_seen};
 ghost use Rattle.ft_bank.specs.Passes.{shape_of, view};
@@ -122,6 +123,7 @@ impl Engine {
         ensures idle { IsIdle caller.new }
         ensures announced { announces (view (pass_of caller.new)).log ≡ announces (view (pass_of caller.old)).log }
         ensures presence { presence_of (view (pass_of caller.new)).log ≡ presence_of (view (pass_of caller.old)).log }
+        ensures merged { HasMergedBoxes (view (pass_of caller.old)).log → HasMergedBoxes (view (pass_of caller.new)).log }
         ensures sections { stack_of (pass_of caller.new) ≡ stack_of (pass_of caller.old) }
         ensures cursors { hands_of caller.new ≡ hands_of caller.old }
         ensures left { left_of caller.new ≡ left_of caller.old }

@@ -76,7 +76,7 @@ cursors-kept v u w z called said n number left took a gone other differs =
     ∙ (a.loaded.work.pass.cursors other ∙ took.cursors other)))
 
 still-moved : (called : Call) (said : Reply) (n number : ℕ) (had : Option Cursor) (left : Cursor) (u : View) → IsStill u → IsStill (view_after (AnswerCursor called said n number had left) u)
-still-moved called said n number had left u s = record { even = s.even; hands = s.hands; used = s.used; owes = s.owes; flight = s.flight; boxes = s.boxes; stands = s.stands }
+still-moved called said n number had left u s = record { even = s.even; hands = s.hands; used = s.used; owes = s.owes; flight = s.flight; boxes = record { settled = record { unmade = s.boxes.settled.unmade; counted = s.boxes.settled.counted; whole = s.boxes.settled.whole; given = s.boxes.settled.given }; none = s.boxes.none; stored = s.boxes.stored }; stands = s.stands }
 
 -- a pass in the midst of a call is in the midst of it still
 pub making-moved : (b : Bank) (p q : Pass) (called : Call) (said : Reply) (n number : ℕ) (left : Cursor) → IsMaking b p → IsPassOf b q → stack_of q ≡ stack_of p → AnsweredCursor called said n number left (view p) (view q) → IsMaking b q

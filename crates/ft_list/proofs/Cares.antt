@@ -10,7 +10,7 @@ use Rattle.ft_trace.specs.declared.Shape.{Shape}
 use Rattle.ft_trace.specs.declared.View.{View}
 use Rattle.ft_trace.specs.Addresses.{container_count, class_of, slots, size}
 use Rattle.ft_trace.specs.Acts.{has_committed}
-use Rattle.ft_trace.specs.Boxes.{value_at, known_box_word, IsDoneWithBoxes}
+use Rattle.ft_trace.specs.Boxes.{value_at, known_box_word, IsSettled}
 use Rattle.ft_trace.specs.ContainerStates.{kind_in}
 use Rattle.ft_trace.specs.Pictures.{root_in, item_offset, item_field}
 use Rattle.ft_trace.specs.ItemWords.{said_at, words_at, ItemCareful}
@@ -29,14 +29,15 @@ use Rattle.ft_bank.specs.declared.table.Table.{Table}
 use Rattle.ft_bank.specs.TableNames.{table_id, IsTableIn}
 use Rattle.ft_bank.specs.WriteSteps.{HasReferencesFor, IsCareful}
 use Rattle.ft_bank.specs.BoxSteps.{IsOpenValue}
-use Rattle.ft_bank.specs.SameBoxes.{SameMade, SameReferences}
+use Rattle.ft_bank.specs.SameBoxes.{HoldsFew, SameMade, SameReferences}
 use Rattle.ft_bank.specs.Whole.{OnlyLoaded, SameWork}
+use Rattle.ft_bank.proofs.DoneBoxes.{stays_settled_same}
 use Rattle.ft_bank.proofs.TableAddresses.{named}
 use Rattle.ft_bank.proofs.KnownAfterWrites.{loaded_held}
 use Rattle.ft_list.specs.ListItemWrites.{WritesList}
 use Rattle.ft_search.specs.Boxed.{WritesTable}
 use Rattle.ft_list.proofs.Room.{version_room}
-use Rattle.ft_search.proofs.Puts.{done_then, few_done}
+use Rattle.ft_search.proofs.Puts.{few_same}
 
 pub table_class : (k : Shape) (t : Table) → IsTableIn k t → IsClass (class_of (table_id t))
 table_class k t is = (named k t is).0
@@ -50,19 +51,20 @@ pub inside : (k : Shape) (t : Table) → IsTableIn k t → (place word : ℕ) �
 inside k t is place word low few = let f = items_fit (class_of (table_id t)) (table_class k t is) in omega (arith, f, low, few)
 
 -- the pass still writes the list
-pub writes_done : (k : Shape) (o : ℕ) (table : Table) (v w : View) → SameWork v w → IsDoneWithBoxes k w.log → root_in (held_unboxed o w) ≡ root_in (held_unboxed o v) → WritesList k o table v → WritesList k o table w
-writes_done k o table v w work done root list = record {
+pub writes_done : (k : Shape) (o : ℕ) (table : Table) (v w : View) → SameWork v w → IsSettled w.log → HoldsFew w → root_in (held_unboxed o w) ≡ root_in (held_unboxed o v) → WritesList k o table v → WritesList k o table w
+writes_done k o table v w work settled few root list = record {
   container = list.container;
   kind = list.kind;
   table_in = list.table_in;
   locked = work.pass.locks o ∙ list.locked;
   odd = work.pass.writes o ∙ list.odd;
   root = root ∙ list.root;
-  boxes = done;
+  settled = settled;
+  few = few;
 }
 
 pub writes_on : (k : Shape) (o : ℕ) (table : Table) (v w : View) → v.shape ≡ k → SameWork v w → SameReferences v w → SameMade v w → root_in (held_unboxed o w) ≡ root_in (held_unboxed o v) → WritesList k o table v → WritesList k o table w
-writes_on k o table v w shape work references made root list = writes_done k o table v w work (done_then k v w shape work.pass.shape references made list.boxes) root list
+writes_on k o table v w shape work references made root list = writes_done k o table v w work ((stays_settled_same v w made).settled list.settled) (few_same v w references list.few) root list
 
 pub writes_loaded : (k : Shape) (o : ℕ) (table : Table) (v w : View) → v.shape ≡ k → OnlyLoaded v w → WritesList k o table v → WritesList k o table w
 writes_loaded k o table v w shape l list = writes_on k o table v w shape l.work l.boxes.references l.boxes.made (ap root_in (loaded_held v w o l)) list
@@ -73,10 +75,10 @@ list_unboxed k o table v w shape l list = l.unboxed o (subst (λ (z : Shape). o 
 
 -- such a pass writes the table, for whoever writes values of any container
 pub list_table : (k : Shape) (o : ℕ) (table : Table) (v : View) → WritesList k o table v → WritesTable k o table v
-list_table k o table v list = record { container = list.container; table_in = list.table_in; locked = list.locked; odd = list.odd; root = list.root; boxes = list.boxes }
+list_table k o table v list = record { container = list.container; table_in = list.table_in; locked = list.locked; odd = list.odd; root = list.root; settled = list.settled; few = list.few }
 
 pub list_of_table : (k : Shape) (o : ℕ) (table : Table) (v : View) → kind_in k.starts o ≡ kind.List → WritesTable k o table v → WritesList k o table v
-list_of_table k o table v is w = record { container = w.container; kind = is; table_in = w.table_in; locked = w.locked; odd = w.odd; root = w.root; boxes = w.boxes }
+list_of_table k o table v is w = record { container = w.container; kind = is; table_in = w.table_in; locked = w.locked; odd = w.odd; root = w.root; settled = w.settled; few = w.few }
 
 module _ (k : Shape) (o : ℕ) (table : Table) (v : View) (list : WritesList k o table v) (shape : v.shape ≡ k) where
   abbrev t : ℕ
@@ -93,7 +95,7 @@ module _ (k : Shape) (o : ℕ) (table : Table) (v : View) (list : WritesList k o
 
   -- a version needs no references
   references_here : (place x : ℕ) → HasReferencesFor v o t (item_offset place 0) x
-  references_here place x = inl (subst (λ (z : Kind). IsNoValue z c (item_offset place 0)) (sym is_kind) (item_far c place), few_done k v shape list.boxes)
+  references_here place x = inl (subst (λ (z : Kind). IsNoValue z c (item_offset place 0)) (sym is_kind) (item_far c place), list.few)
 
   cares : (place x : ℕ) → ItemCareful (slots c) ws (list_of (known_state o v).content) (item_offset place 0) x → Timely (version_at kind.List c) (rows kind.List c) (item_offset place 0) x (has_committed o v.log) → IsCareful v o t (item_offset place 0) x
   cares place x care timely = record {

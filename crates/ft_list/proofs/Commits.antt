@@ -23,6 +23,7 @@ use Rattle.ft_trace.specs.declared.Shape.{Shape}
 use Rattle.ft_trace.specs.declared.View.{View}
 use Rattle.ft_trace.specs.Addresses.{container_count, class_of, slots}
 use Rattle.ft_trace.specs.Acts.{has_lock, is_writing, has_emptied, owes}
+use Rattle.ft_trace.specs.Boxes.{StoresTaken}
 use Rattle.ft_trace.specs.ContainerStates.{ContainerState, state_at, kind_in, changes}
 use Rattle.ft_trace.specs.Pictures.{root_in}
 use Rattle.ft_trace.specs.ItemWords.{ItemClear}
@@ -112,8 +113,8 @@ module _ (k : Shape) (o : ℕ) (table : Table) (first past : ℕ) (lc : ListCall
     room = subst (λ (z : Option ℕ). IfSome z (λ (n : ℕ). n < 0)) (sym call_is.cursor) tt;
   }
 
-  pub may_finish : 0 < v.left → has_emptied o v.log ≡ false → IsBlock (held_unboxed o v).block (Some class) (length news) 0 0 → MayFinishItems o table called said first past v
-  may_finish left full head = record {
+  pub may_finish : 0 < v.left → has_emptied o v.log ≡ false → IsBlock (held_unboxed o v).block (Some class) (length news) 0 0 → ((stored : StoredWorld) → MayHave v stored → StoresTaken v.shape stored.world v.log called) → MayFinishItems o table called said first past v
+  may_finish left full head stores = record {
     may = record {
       write = (λ d. call_is.changing d && not (call_is.raises d));
       container = subst (λ (n : ℕ). n < container_count v.shape) (sym changed) low';
@@ -126,6 +127,7 @@ module _ (k : Shape) (o : ℕ) (table : Table) (first past : ℕ) (lc : ListCall
       fits = call_is.caps;
       clear = subst (λ (n : ℕ). (stored : StoredWorld) (t : ℕ) → MayHave v stored → root_in (held_unboxed n v) ≡ suc t → ClearAs (kind_in v.shape.starts n) v.shape.texts (class_of t) (held_unboxed n v).table (known_state n v).content (state_at (after_stored stored called) n).content) (sym changed) clears;
       takes = takes_owed;
+      stores = stores;
       empties = λ e. absurd (true≢false (sym e ∙ subst (λ (n : ℕ). has_emptied n v.log ≡ false) (sym changed) full));
     };
     changed = changed;

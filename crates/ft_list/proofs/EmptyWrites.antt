@@ -70,7 +70,7 @@ module _ (k : Shape) (o : ℕ) (v s : View) (f : ℕ) (may : MayWriteList k o v)
 
   pub nothing_commits : MayCommit s called said
   nothing_commits =
-      may_commit o v s s f begun (written_same o s) called said (known_state o v) leaves (subst (λ (z : Shape). o < container_count z) (sym shape) may.container) may.left may.owes
+      may_commit o v s s f begun (written_same o s) called said (known_state o v) leaves (subst (λ (z : Shape). o < container_count z) (sym shape) may.container) may.left may.owes may.boxes.stored
       (λ t names. absurd (let r = bare_then in omega (arith, r, names)))
 
   module _ (number : ℕ) (snap : Snap) (w : View) (done : w ≡ view_after (Commit called said number snap) s) (committed : Committed s w called) where

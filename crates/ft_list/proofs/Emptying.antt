@@ -9,6 +9,7 @@ use Rattle.ft_model.specs.declared.data.Value.{Value}
 use Rattle.ft_model.specs.declared.reply.Reply.TheVariants as reply
 use Rattle.ft_model.specs.TableUses.{no_table}
 use Rattle.ft_layout.specs.Containers.{IsRoot, IsBlock}
+use Rattle.ft_trace.specs.Boxes.{place_use, use_taken}
 use Rattle.ft_trace.specs.declared.Act.TheVariants.{Commit, PutBlock, StartWrite, StopWrite}
 use Rattle.ft_trace.specs.declared.Snap.{Snap}
 use Rattle.ft_trace.specs.declared.Shape.{Shape}
@@ -47,8 +48,8 @@ empty_kept = record { content = content.List []; table = no_table }
 
 module _ (o : ℕ) (values : List Value) (u : View) (low : o < container_count u.shape) (mine : has_lock o u.log ≡ true) (is_list : (known_state o u).content ≡ content.List values) where
   -- a pass that writes a list whose root names no table may commit it
-  pub may_clear : is_writing o u.log ≡ true → 0 < u.left → owes u.log ≡ 0 → root_in (held_unboxed o u) ≡ 0 → MayCommit u (clear_of o) reply.Done
-  may_clear odd left none bare = record {
+  pub may_clear : is_writing o u.log ≡ true → 0 < u.left → owes u.log ≡ 0 → root_in (held_unboxed o u) ≡ 0 → ((b : ℕ) → place_use b u.log ≢ use_taken) → MayCommit u (clear_of o) reply.Done
+  may_clear odd left none bare untaken = record {
     write = refl;
     container = low;
     odd = odd;
@@ -65,6 +66,7 @@ module _ (o : ℕ) (values : List Value) (u : View) (low : o < container_count u
     clear = λ stored t has names. absurd (omega (arith, bare, names));
     takes = λ stored class has e. absurd (omega (arith, e, none));
     empties = λ e. refl;
+    stores = λ stored has. ((λ b e. absurd (untaken b e)), (λ b c e other. absurd (untaken b e)));
   }
 
   -- the list is empty then, and has no table
@@ -110,7 +112,7 @@ may_put_none k o old v f shape possible list free few = record {
   shut = knows_shut k o old v shape possible list;
   spare = λ some_one. free;
   early = λ e. hit o false _;
-  references = record { few = few; enough = λ b. omega arith; known = λ b old_none some_. absurd (some_ refl) };
+  references = record { few = few; enough = λ b. omega arith; known = λ b old_none some_. absurd (some_ refl); stored = λ b taken. refl };
 }
 
 -- ---- the whole write of a list that has a table
@@ -150,6 +152,7 @@ module _ (k : Shape) (o : ℕ) (table : Table) (v s u : View) (may : MayAdd k o 
       (subst (λ (n : ℕ). 0 < n) (sym (puts.work.left ∙ ap (λ (z : View). z.left) h.did)) may.left)
       (puts.work.owes ∙ (ap (λ (z : View). owes z.log) h.did ∙ may.owes))
       root_then
+      (λ b e. may.boxes.stored b (ap (λ (z : View). place_use b z.log) (sym h.did) ∙ puts.made.places b e))
 
   -- after the commit
   module _ (number g : ℕ) (snap : Snap) (c w : View) (made : c ≡ view_after (Commit (clear_of o) reply.Done number snap) u) (committed : Committed u c (clear_of o)) where

@@ -9,19 +9,21 @@ use Rattle.ft_model.specs.declared.content.Content.TheVariants as content
 use Rattle.ft_model.specs.declared.data.Value.{Value}
 use Rattle.ft_model.specs.declared.reply.Reply.TheVariants as reply
 use Rattle.ft_model.specs.Calls.{is_changing_list}
+use Rattle.ft_model.specs.TableUses.{StoredWorld}
 use Rattle.ft_layout.specs.Containers.{IsBlock}
 use Rattle.ft_trace.specs.declared.Act.TheVariants.{StartWrite, PutRoot}
 use Rattle.ft_trace.specs.declared.Shape.{Shape}
 use Rattle.ft_trace.specs.declared.View.{View}
 use Rattle.ft_trace.specs.Addresses.{class_of}
 use Rattle.ft_trace.specs.Acts.{has_lock, is_writing, has_emptied, owes, view_after}
+use Rattle.ft_trace.specs.Boxes.{place_use, use_taken, StoresTaken}
 use Rattle.ft_trace.specs.ContainerStates.{ContainerState, changes}
 use Rattle.ft_trace.specs.Pictures.{root_in}
 use Rattle.ft_trace.specs.Holds.{held_unboxed, known_state, held_words}
 use Rattle.ft_trace.proofs.Cases.{hit}
 use Rattle.ft_bank.specs.declared.table.Table.{Table}
 use Rattle.ft_bank.specs.TableNames.{table_id}
-use Rattle.ft_bank.specs.WriteSteps.{KeepsUnwritten}
+use Rattle.ft_bank.specs.WriteSteps.{MayHave, KeepsUnwritten}
 use Rattle.ft_bank.specs.Whole.{OnlyWritten, EndsWrite, Wrote}
 use Rattle.ft_bank.proofs.KnownAfterWrites.{work_knows}
 use Rattle.ft_table_calls.specs.Adding.{OnlyFilled}
@@ -54,8 +56,9 @@ module _ (k : Shape) (o : ℕ) (old : Option Table) (table : Table) (v r u : Vie
       puts.work.emptied o ∙ (after ∙ ne_eqb (suc (table_id table)) 0 (λ e. absurd (omega (arith, e))))
 
   pub grow_finishing : (first past : ℕ) (lc : ListCall) (called : Call) (values news : List Value) → called ≡ call.List o lc → Grows o lc values news (class_of (table_id table)) v → (known_state o v).content ≡ content.List values → WritesList k o table u → u.shape ≡ k → Changed (class_of (table_id table)) values news first past (held_unboxed o u).table → IsBlock (held_unboxed o u).block (Some (class_of (table_id table))) (length news) 0 0
+      → ((stored : StoredWorld) → MayHave u stored → StoresTaken u.shape stored.world u.log called)
       → MayFinishItems o table called reply.Done first past u
-  grow_finishing first past lc called values news names grows is_list list shape changing head =
+  grow_finishing first past lc called values news names grows is_list list shape changing head stores =
       let class = class_of (table_id table) in
       let g = grows_on v u known_then shape_then locks_then o lc values news class grows in
       let owed : owes u.log ≡ suc class = puts.work.owes ∙ (ap (λ (z : View). owes z.log) is ∙ may.owed) in
@@ -66,7 +69,12 @@ module _ (k : Shape) (o : ℕ) (old : Option Table) (table : Table) (v r u : Vie
       changing
       (subst (λ (n : ℕ). 0 < n) (sym (puts.work.left ∙ ap (λ (z : View). z.left) is)) may.left)
       not_emptied
-      head)
+      head
+      (subst (λ (z : Call). (stored : StoredWorld) → MayHave u stored → StoresTaken u.shape stored.world u.log z) names stores))
+
+  -- a place that the pass has taken then it had taken before
+  pub taken_before_root : (b : ℕ) → place_use b u.log ≡ use_taken → place_use b v.log ≡ use_taken
+  taken_before_root b e = ap (λ (z : View). place_use b z.log) (sym is) ∙ puts.made.places b e
 
   pub grow_wrote : (lc : ListCall) (called : Call) (number : ℕ) (before w : View) → called ≡ call.List o lc → is_changing_list lc ≡ true → OnlyFilled before v → held_words o v ≡ held_words o before → root_in (held_words o v) ≢ suc (table_id table) → KeepsUnwritten (view_after (StartWrite o f) v) r → MovesReferences o (view_after (StartWrite o f) v) r → root_in (held_words o u) ≡ suc (table_id table) → EndsWrite called reply.Done number u w → Wrote called reply.Done number before w
   grow_wrote lc called number before w names changing only same new keeps moves root ends =

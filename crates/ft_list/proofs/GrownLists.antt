@@ -153,6 +153,7 @@ module _ (k : Shape) (o : ℕ) (old : Option Table) (table : Table) (v : View) (
         few = few_done k v shape may.boxes;
         enough = λ b. let none = new_names b in omega (arith, none);
         known = λ b old_none some_. absurd (some_ (new_names b));
+        stored = λ b taken. new_names b;
       };
     }
 

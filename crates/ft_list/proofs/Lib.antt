@@ -7,6 +7,7 @@ pub mod FinishedWrites
 pub mod Commits
 pub mod ItemWordsPut
 pub mod Lists
+pub mod NamedItems
 pub mod WholeListWrites
 pub mod LookRounds
 pub mod ListCallFacts
@@ -30,3 +31,4 @@ pub mod Emptying
 pub mod Extending
 pub mod Undisturbed
 pub mod ListTries
+pub mod HeldWrites

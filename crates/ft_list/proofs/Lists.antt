@@ -27,9 +27,9 @@ use Rattle.ft_bank.specs.declared.table.Table.{Table}
 use Rattle.ft_bank.specs.Whole.{OnlyLoaded}
 use Rattle.ft_bank.proofs.KnownAfterWrites.{loaded_held, work_knows}
 use Rattle.ft_list.specs.ListItemWrites.{known_items}
-use Rattle.ft_list.specs.ListWrites.{MayWriteList}
+use Rattle.ft_list.specs.ListWrites.{MayBeginList, MayWriteList}
 use Rattle.ft_search.specs.OneEntryWrites.{HasTable}
-use Rattle.ft_search.proofs.Puts.{shut_reads, done_then}
+use Rattle.ft_search.proofs.Puts.{done_then, few_done, shut_reads}
 
 -- 1 for a list
 list_code : Kind → ℕ
@@ -95,6 +95,20 @@ may_loaded k o v w shape only may =
       boxes = done_then k v w shape only.work.pass.shape only.boxes.references only.boxes.made may.boxes;
       left = subst (λ (z : ℕ). 0 < z) (sym only.work.left) may.left;
     }
+
+-- who holds no reference holds few
+pub begins : (k : Shape) (o : ℕ) (v : View) → v.shape ≡ k → MayWriteList k o v → MayBeginList k o v
+begins k o v shape may = record {
+  container = may.container;
+  kind = may.kind;
+  locked = may.locked;
+  even = may.even;
+  stands = may.stands;
+  owes = may.owes;
+  settled = may.boxes.settled;
+  few = few_done k v shape may.boxes;
+  left = may.left;
+}
 
 pub items_loaded : (o : ℕ) (v w : View) → OnlyLoaded v w → known_items o w ≡ known_items o v
 items_loaded o v w only = ap (λ (z : ContainerState). list_of z.content) (work_knows v w o only.work)

@@ -1,5 +1,5 @@
 -- What a pass knows once it has put another root of a list, and has dropped what the old table named.
-use Rattle.std.proofs.Common.{◌≡◌, ◌≢◌, ℕ, suc, ◌<◌, true, false, eqb, cond, ◌∷◌, Option, Some, None, refl, sym, ap, ◌∙◌, subst, arith, get_or-set_same}
+use Rattle.std.proofs.Common.{◌≡◌, ◌≢◌, ℕ, suc, ◌+◌, ◌<◌, true, false, eqb, cond, ◌∷◌, Option, Some, None, refl, sym, ap, ◌∙◌, subst, arith, get_or-set_same}
 use Rattle.std.specs.Prelude.{slice_index, slice_set}
 use Rattle.ft_layout.proofs.KindLaws.{head_of}
 use Rattle.ft_trace.specs.declared.Act.TheVariants.{StartWrite, PutRoot}
@@ -7,22 +7,21 @@ use Rattle.ft_trace.specs.declared.Shape.{Shape}
 use Rattle.ft_trace.specs.declared.View.{View}
 use Rattle.ft_trace.specs.Acts.{has_lock, is_writing, stage, stage_next, view_after}
 use Rattle.ft_trace.specs.Addresses.{container_count, IsTableName}
-use Rattle.ft_trace.specs.Boxes.{named_in_root, references_held, IsDoneWithBoxes}
+use Rattle.ft_trace.specs.Boxes.{named_in_root, references_held, IsSettled}
 use Rattle.ft_trace.specs.ContainerStates.{kind_in}
 use Rattle.ft_trace.specs.Holds.{held_words, held_unboxed, known_state, in_hand}
 use Rattle.ft_trace.specs.Pictures.{root_in}
 use Rattle.ft_trace.proofs.Cases.{hit, miss}
 use Rattle.ft_bank.specs.declared.table.Table.{Table}
-use Rattle.ft_bank.specs.SameBoxes.{MovesReferences, SameMade, named_in_words}
+use Rattle.ft_bank.specs.SameBoxes.{MovesReferences, SameMade, SameReferences, StaysSettled, named_in_words}
 use Rattle.ft_bank.specs.TableNames.{root_for, words_for}
 use Rattle.ft_bank.specs.Whole.{OnlyBoxed, OnlyWritten}
 use Rattle.ft_bank.specs.WriteSteps.{with_root, with_unboxed_root}
-use Rattle.ft_bank.proofs.BoxedSteps.{made_then}
-use Rattle.ft_bank.proofs.DoneBoxes.{done_none, none_named}
+use Rattle.ft_bank.proofs.DoneBoxes.{none_named, stays_settled_same}
 use Rattle.ft_bank.proofs.KnownAfterWrites.{boxed_written, work_knows}
 use Rattle.ft_bank.proofs.WordsPut.{taken_words}
-use Rattle.ft_table_calls.specs.Dropping.{HoldsNamed, SharesBoxes}
-use Rattle.ft_table_calls.proofs.Dropped.{holds_named, shares_done}
+use Rattle.ft_table_calls.specs.Dropping.{HoldsNamed}
+use Rattle.ft_table_calls.proofs.Dropped.{dropped_named, holds_named}
 use Rattle.ft_list.specs.Internal.NewListTables.{HasRooted, KnowsList}
 
 module _ (o root : ℕ) (v w : View) (h : HasRooted o root v w) where
@@ -56,7 +55,7 @@ start_reads o f v (Some t) = refl
 
 -- ---- right after the root was put
 
-module _ (k : Shape) (o : ℕ) (old root : Option Table) (v s r : View) (f : ℕ) (shape : v.shape ≡ k) (list : KnowsList k o old v) (done : IsDoneWithBoxes k v.log) (plain : (b : ℕ) → named_in_root b (kind_in v.shape.starts o) (root_for root) (words_for root v) ≡ 0) (begun : s ≡ view_after (StartWrite o f) v) (put : r ≡ view_after (PutRoot o (root_for root) (root_in (held_words o s))) s) (held : held_words o r ≡ with_root (held_words o s) root s) (moves : MovesReferences o s r) where
+module _ (k : Shape) (o : ℕ) (old root : Option Table) (v s r : View) (f : ℕ) (shape : v.shape ≡ k) (list : KnowsList k o old v) (settled : IsSettled v.log) (plain : (b : ℕ) → named_in_root b (kind_in v.shape.starts o) (root_for root) (words_for root v) ≡ 0) (begun : s ≡ view_after (StartWrite o f) v) (put : r ≡ view_after (PutRoot o (root_for root) (root_in (held_words o s))) s) (held : held_words o r ≡ with_root (held_words o s) root s) (moves : MovesReferences o s r) where
   pub put_is : r ≡ view_after (PutRoot o (root_for root) (root_in (held_words o v))) (view_after (StartWrite o f) v)
   put_is = put ∙ ap (λ (z : View). view_after (PutRoot o (root_for root) (root_in (held_words o z))) z) begun
 
@@ -67,7 +66,7 @@ module _ (k : Shape) (o : ℕ) (old root : Option Table) (v s r : View) (f : ℕ
   put_moves = subst (λ (z : View). MovesReferences o z r) begun moves
 
   pub put_made : SameMade v r
-  put_made = subst (SameMade v) (sym put_is) (record { state = λ b. refl; local = λ b. refl; taken = λ b. refl; places = λ b. refl })
+  put_made = subst (SameMade v) (sym put_is) (record { state = λ b. refl; local = λ b. refl; taken = λ b. refl; places = λ b. refl; uses = λ b. refl })
 
   pub put_here : o < container_count r.shape
   put_here = subst (λ (z : Shape). o < container_count z) (sym (put_shape ∙ shape)) list.container
@@ -90,19 +89,16 @@ module _ (k : Shape) (o : ℕ) (old root : Option Table) (v s r : View) (f : ℕ
       (λ d. named_in_words b (kind_in (put_shape d).starts o) (is d))
       ∙ ((λ d. named_in_root b (kind_in v.shape.starts o) (first d) (words_for root v)) ∙ plain b)
 
-  -- a list that had no table: the pass holds no reference
-  pub put_none : root_in (held_words o v) ≡ 0 → IsDoneWithBoxes k r.log
-  put_none bare =
-      let now : r.shape ≡ k = put_shape ∙ shape in
-      subst (λ (z : Shape). IsDoneWithBoxes z r.log) now
-      (done_none v r
-      (λ b.
+  pub put_settled : IsSettled r.log
+  put_settled = (stays_settled_same v r put_made).settled settled
+
+  -- a list that had no table
+  pub put_same : root_in (held_words o v) ≡ 0 → SameReferences v r
+  put_same bare b =
       let sum = put_moves b in
       let none = put_plain b in
       let was = none_named b (kind_in v.shape.starts o) (held_words o v) bare in
-      let held_none = (subst (λ (z : Shape). IsDoneWithBoxes z v.log) (sym shape) done b).0 in
-      omega (arith, sum, none, was, held_none))
-      put_made (subst (λ (z : Shape). IsDoneWithBoxes z v.log) (sym shape) done))
+      omega (arith, sum, none, was)
 
   -- one that had this table: it is in the pass's hand, with the references of the boxes that it names
   module _ (t : ℕ) (names : root_in (held_words o v) ≡ suc t) (in_bank : IsTableName k t) (other : suc t ≢ root_for root) where
@@ -120,26 +116,22 @@ module _ (k : Shape) (o : ℕ) (old root : Option Table) (v s r : View) (f : ℕ
         ∙ taken_words (view_after (StartWrite o f) v) o t (root_for root) (root_in (held_words o v)) (subst (λ (z : Shape). o < container_count z) (sym shape) list.container) (subst (λ (z : Shape). IsTableName z t) (sym shape) in_bank) names
 
     pub old_held : HoldsNamed k o t r
-    old_held = holds_named k o t v r shape put_shape done put_moves names old_hand put_plain
+    old_held = holds_named k o t v r shape put_shape put_moves names old_hand put_plain
 
-    pub old_shared : SharesBoxes r
-    old_shared = shares_done k v r done put_made
+    -- after the drop of all that the old table named
+    module _ (w : View) (boxed : OnlyBoxed r w) (made : StaysSettled r w) (dropped : (b : ℕ) → references_held k b w.log + named_in_root b (kind_in k.starts o) (suc t) (in_hand t r) ≡ references_held k b r.log) where
+      pub dropped_settled : IsSettled w.log
+      dropped_settled = made.settled put_settled
 
-  -- after the drop of all that the old table named
-  module _ (w : View) (boxed : OnlyBoxed r w) (made : SameMade r w) (none : (b : ℕ) → references_held k b w.log ≡ 0) where
-    end_shape : w.shape ≡ k
-    end_shape = boxed.work.pass.shape ∙ (put_shape ∙ shape)
+      pub dropped_same : SameReferences v w
+      dropped_same = dropped_named k o t v r w shape put_shape boxed.work.pass.shape put_moves names old_hand put_plain dropped
 
-    none_now : (b : ℕ) → references_held w.shape b w.log ≡ 0
-    none_now b = ap (λ (z : Shape). references_held z b w.log) end_shape ∙ none b
+      pub dropped_only : OnlyWritten o r w
+      dropped_only = boxed_written o r w boxed made (λ b.
+          let less = dropped b in
+          let now : references_held w.shape b w.log ≡ references_held k b w.log = ap (λ (z : Shape). references_held z b w.log) (boxed.work.pass.shape ∙ (put_shape ∙ shape)) in
+          let was : references_held r.shape b r.log ≡ references_held k b r.log = ap (λ (z : Shape). references_held z b r.log) (put_shape ∙ shape) in
+          omega (arith, less, now, was))
 
-    pub dropped_done : IsDoneWithBoxes k w.log
-    dropped_done =
-        subst (λ (z : Shape). IsDoneWithBoxes z w.log) end_shape
-        (done_none v w none_now (made_then v r w put_made made) (subst (λ (z : Shape). IsDoneWithBoxes z v.log) (sym shape) done))
-
-    pub dropped_only : OnlyWritten o r w
-    dropped_only = boxed_written o r w boxed made (λ b. let z = none_now b in omega (arith, z))
-
-    pub dropped_reads : held_unboxed o w ≡ held_unboxed o r
-    dropped_reads = boxed.unboxed o put_here put_mine
+      pub dropped_reads : held_unboxed o w ≡ held_unboxed o r
+      dropped_reads = boxed.unboxed o put_here put_mine

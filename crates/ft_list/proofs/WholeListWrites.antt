@@ -1,5 +1,5 @@
 -- A whole write of a list, from the version made odd to its end.
-use Rattle.std.proofs.Common.{◌≡◌, ℕ, ◌<◌, Bool, true, false, List, length, Some, sym, ap, ◌∙◌, subst, arith, []}
+use Rattle.std.proofs.Common.{◌≡◌, ◌≢◌, ℕ, ◌<◌, Bool, true, false, List, length, Some, sym, ap, ◌∙◌, subst, arith, []}
 use Rattle.std.specs.Prelude.{if◌then◌else◌, None}
 use Rattle.std.specs.Option.{unwrap_or}
 use Rattle.ft_model.specs.declared.call.Call.{Call}
@@ -17,6 +17,7 @@ use Rattle.ft_trace.specs.declared.Shape.{Shape}
 use Rattle.ft_trace.specs.declared.View.{View}
 use Rattle.ft_trace.specs.Addresses.{container_count, class_of}
 use Rattle.ft_trace.specs.Acts.{has_lock, is_writing, has_emptied, owes, view_after}
+use Rattle.ft_trace.specs.Boxes.{place_use, use_taken, StoresTaken}
 use Rattle.ft_trace.specs.ContainerStates.{ContainerState, changes, kinds_in}
 use Rattle.ft_trace.specs.Pictures.{root_in}
 use Rattle.ft_trace.specs.Holds.{held_unboxed, known_state}
@@ -27,7 +28,7 @@ use Rattle.ft_bank.specs.WriteSteps.{MayHave}
 use Rattle.ft_bank.specs.Whole.{OnlyWritten, EndsWrite, Wrote}
 use Rattle.ft_bank.proofs.KnownAfterWrites.{work_knows, plain_write}
 use Rattle.ft_list.specs.ListItemWrites.{WritesList, MayFinishItems}
-use Rattle.ft_list.specs.ListWrites.{MayWriteList, IsListWrite, Changes, Grows}
+use Rattle.ft_list.specs.ListWrites.{MayBeginList, IsListWrite, Changes, Grows}
 use Rattle.ft_list.proofs.Commits.{may_finish}
 use Rattle.ft_list.proofs.ItemWordsPut.{Changed}
 
@@ -74,7 +75,7 @@ module _ (v u : View) (same_known : (p : ℕ) → known_state p u ≡ known_stat
 
 -- ---- a write that leaves the list's table
 
-module _ (k : Shape) (o : ℕ) (table : Table) (v s u : View) (f : ℕ) (may : MayWriteList k o v) (begun : s ≡ view_after (StartWrite o f) v) (puts : OnlyWritten o s u) where
+module _ (k : Shape) (o : ℕ) (table : Table) (v s u : View) (f : ℕ) (may : MayBeginList k o v) (begun : s ≡ view_after (StartWrite o f) v) (puts : OnlyWritten o s u) where
   same_known : (p : ℕ) → known_state p u ≡ known_state p v
   same_known p = work_knows s u p puts.work ∙ ap (λ (z : View). known_state p z) begun
 
@@ -87,6 +88,17 @@ module _ (k : Shape) (o : ℕ) (table : Table) (v s u : View) (f : ℕ) (may : M
   locks_on : (p : ℕ) → has_lock p v.log ≡ true → has_lock p u.log ≡ true
   locks_on p mine = same_locks p ∙ mine
 
+  -- a place that the pass has taken then it had taken before
+  pub taken_before : (b : ℕ) → place_use b u.log ≡ use_taken → place_use b v.log ≡ use_taken
+  taken_before b e = ap (λ (z : View). place_use b z.log) (sym begun) ∙ puts.made.places b e
+
+  pub earlier_has : (stored : StoredWorld) → MayHave u stored → MayHave v stored
+  earlier_has stored has = has_before v u same_known same_shape locks_on stored has
+
+  -- where it had taken none, the call has no box to store
+  pub stores_none : ((b : ℕ) → place_use b v.log ≢ use_taken) → (called : Call) (stored : StoredWorld) → StoresTaken u.shape stored.world u.log called
+  stores_none none called stored = ((λ b e. absurd (none b (taken_before b e))), (λ b c e other. absurd (none b (taken_before b e))))
+
   pub still_changes : (lc : ListCall) (said : Reply) (values news : List Value) → Changes o lc said values news v → Changes o lc said values news u
   still_changes lc said values news call_is = record {
     write = write_on v u same_known same_shape locks_on o lc said values news call_is.write;
@@ -94,8 +106,9 @@ module _ (k : Shape) (o : ℕ) (table : Table) (v s u : View) (f : ℕ) (may : M
   }
 
   pub finishing : (first past : ℕ) (lc : ListCall) (called : Call) (said : Reply) (values news : List Value) → called ≡ call.List o lc → Changes o lc said values news v → (known_state o v).content ≡ content.List values → (known_state o v).table ≡ record { class = Some (class_of (table_id table)); fill = 0; keys = [] } → WritesList k o table u → u.shape ≡ k → Changed (class_of (table_id table)) values news first past (held_unboxed o u).table → IsBlock (held_unboxed o u).block (Some (class_of (table_id table))) (length news) 0 0
+      → ((stored : StoredWorld) → MayHave u stored → StoresTaken u.shape stored.world u.log called)
       → MayFinishItems o table called said first past u
-  finishing first past lc called said values news is call_is is_list kept list shape changing head =
+  finishing first past lc called said values news is call_is is_list kept list shape changing head stores =
       let none : owes u.log ≡ 0 = puts.work.owes ∙ (ap (λ (z : View). owes z.log) begun ∙ may.owes) in
       let low : o < container_count v.shape = subst (λ (z : Shape). o < container_count z) (sym shape ∙ same_shape) may.container in
       subst (λ (z : Call). MayFinishItems o table z said first past u) (sym is)
@@ -108,7 +121,8 @@ module _ (k : Shape) (o : ℕ) (table : Table) (v s u : View) (f : ℕ) (may : M
       changing
       (subst (λ (n : ℕ). 0 < n) (sym (puts.work.left ∙ ap (λ (z : View). z.left) begun)) may.left)
       (puts.work.emptied o ∙ (ap (λ (z : View). has_emptied o z.log) begun ∙ hit o false (has_emptied o v.log)))
-      head)
+      head
+      (subst (λ (z : Call). (stored : StoredWorld) → MayHave u stored → StoresTaken u.shape stored.world u.log z) is stores))
 
   pub list_wrote : (lc : ListCall) (called : Call) (said : Reply) (number : ℕ) (w : View) → called ≡ call.List o lc → is_changing_list lc ≡ true → EndsWrite called said number u w → root_in (held_unboxed o u) ≡ root_in (held_unboxed o v) → Wrote called said number v w
   list_wrote lc called said number w is changing ends root =

@@ -4,3 +4,4 @@ pub mod NewListTables
 pub mod Additions
 pub mod Moving
 pub mod Reversing
+pub mod StoredBoxes

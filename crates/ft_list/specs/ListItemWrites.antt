@@ -17,16 +17,19 @@ use Rattle.ft_trace.specs.declared.Shape.{Shape}
 use Rattle.ft_trace.specs.declared.View.{View}
 use Rattle.ft_trace.specs.Addresses.{container_count, class_of, slots}
 use Rattle.ft_trace.specs.Acts.{has_lock, is_writing}
-use Rattle.ft_trace.specs.Boxes.{IsDoneWithBoxes}
+use Rattle.ft_trace.specs.Boxes.{IsSettled}
 use Rattle.ft_trace.specs.ContainerStates.{state_at, kind_in, changes}
 use Rattle.ft_trace.specs.Pictures.{ContainerWords, root_in, item_offset, item_field}
 use Rattle.ft_trace.specs.ItemWords.{words_at, said_at}
 use Rattle.ft_trace.specs.Holds.{held_unboxed, known_state}
+use Rattle.ft_bank.specs.BoxSteps.{kind_read, payload_read}
 use Rattle.ft_bank.specs.declared.table.Table.{Table}
+use Rattle.ft_bank.specs.SameBoxes.{HoldsFew}
 use Rattle.ft_bank.specs.TableNames.{table_id, IsTableIn}
 use Rattle.ft_bank.specs.WriteSteps.{MayHave, MayCommit}
 
--- The pass writes the list o, whose root names the table; it holds no reference for a box and makes none. (profile)
+-- The pass writes the list o, whose root names the table; what it has to do with its own boxes is settled, and it holds
+-- few references. (profile)
 pub record WritesList (k : Shape) (o : ℕ) (table : Table) (v : View) : Type 0 where
   pub container : o < container_count k
   pub kind : kind_in k.starts o ≡ kind.List
@@ -34,7 +37,8 @@ pub record WritesList (k : Shape) (o : ℕ) (table : Table) (v : View) : Type 0 
   pub locked : has_lock o v.log ≡ true
   pub odd : is_writing o v.log ≡ true
   pub root : root_in (held_unboxed o v) ≡ suc (table_id table)
-  pub boxes : IsDoneWithBoxes k v.log
+  pub settled : IsSettled v.log
+  pub few : HoldsFew v
 
 -- The words of a list once a word of an item is put. (profile)
 abbrev pub with_word : ContainerWords → ℕ → ℕ → ℕ → ContainerWords
@@ -44,6 +48,12 @@ with_word words place word value =
 -- the kind and the payload of what is stored
 abbrev pub stored_words : Stored → List ℕ
 stored_words stored = stored_kind stored ∷ stored_payload stored ∷ []
+
+-- what is stored reads so: as it is, or as the value in the box that it names, which the pass knows
+abbrev pub ReadsAs : View → Stored → Stored → Type 0
+ReadsAs v stored seen =
+    IsStored (kind_read v (stored_kind stored) (stored_payload stored))
+    (payload_read v (stored_kind stored) (stored_payload stored)) seen
 
 -- The item at this place stores this: its words say so, and its version is odd, where they said something else before;
 -- or they said so, and nothing is changed. No other word of the list is changed. (profile)

@@ -22,11 +22,12 @@ use Rattle.ft_trace.specs.Addresses.{container_count}
 use Rattle.ft_trace.specs.Acts.{has_lock, is_writing, owes}
 use Rattle.ft_trace.specs.FitCalls.{FitsListCall}
 use Rattle.ft_trace.specs.BegunSections.{HasLocksOf}
-use Rattle.ft_trace.specs.Boxes.{IsDoneWithBoxes}
+use Rattle.ft_trace.specs.Boxes.{IsDoneWithBoxes, IsSettled}
 use Rattle.ft_trace.specs.ContainerStates.{kind_in}
 use Rattle.ft_trace.specs.Pictures.{Represents}
 use Rattle.ft_trace.specs.Holds.{held_unboxed, known_state}
 use Rattle.ft_bank.specs.Answered.{Answered}
+use Rattle.ft_bank.specs.SameBoxes.{HoldsFew}
 use Rattle.ft_bank.specs.Whole.{Wrote}
 use Rattle.ft_bank.specs.WriteSteps.{MayHave}
 use Rattle.ft_bank.specs.declared.bank.Bank.{Bank}
@@ -47,6 +48,18 @@ pub record MayWriteList (k : Shape) (o : ℕ) (v : View) : Type 0 where
   pub stands : Represents k.texts (held_unboxed o v) (known_state o v)
   pub owes : owes v.log ≡ 0
   pub boxes : IsDoneWithBoxes k v.log
+  pub left : 0 < v.left
+
+-- Or it may hold few references for boxes, where what it has to do with its own boxes is settled. (profile)
+pub record MayBeginList (k : Shape) (o : ℕ) (v : View) : Type 0 where
+  pub container : o < container_count k
+  pub kind : kind_in k.starts o ≡ kind.List
+  pub locked : has_lock o v.log ≡ true
+  pub even : (p : ℕ) → is_writing p v.log ≡ false
+  pub stands : Represents k.texts (held_unboxed o v) (known_state o v)
+  pub owes : owes v.log ≡ 0
+  pub settled : IsSettled v.log
+  pub few : HoldsFew v
   pub left : 0 < v.left
 
 -- A call is a write of the list o: the plain containers reply so to it, where the list has these values, and it has

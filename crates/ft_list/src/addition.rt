@@ -9,6 +9,7 @@ ghost use Rattle.ft_trace.specs.Pictures.{root_in};
 ghost use Rattle.ft_bank.specs.declared.table.Table.{Table};
 ghost use Rattle.ft_bank.specs.Passes.{shape_of, view, IsPassOf};
 ghost use Rattle.ft_bank.specs.PassSections.{stack_of};
+ghost use Rattle.ft_bank.specs.SameBoxes.{SameReferences};
 ghost use Rattle.ft_bank.specs.TableNames.{table_id, root_for, IsTableIn};
 ghost use Rattle.ft_bank.specs.Whole.{OnlyLoaded, OnlyWritten};
 ghost use Rattle.ft_list.specs.ListItemWrites.{WritesList, IsPutting, known_items, stored_item};
@@ -98,6 +99,7 @@ fn put_from(
     ensures stack { stack_of pass.new ≡ stack_of pass.old }
     ensures list { WritesList (shape_of bank.now) o table (view pass.new) }
     ensures only { OnlyWritten o (view pass.old) (view pass.new) }
+    ensures references { SameReferences (view pass.old) (view pass.new) }
     ensures block { (held_unboxed o (view pass.new)).block ≡ (held_unboxed o (view pass.old)).block }
     ensures moved { IsMoving (class_of (table_id table)) (known_items o (view pass.old))
         (known_items o (view pass.old) ++ known_items m (view pass.old)) count (count + more) (count + more)
@@ -126,6 +128,7 @@ fn put_items(bank: &Bank, pass: &mut Pass, o: u32, table: Table, m: u32, count: 
     ensures stack { stack_of pass.new ≡ stack_of pass.old }
     ensures list { WritesList (shape_of bank.now) o table (view pass.new) }
     ensures only { OnlyWritten o (view pass.old) (view pass.new) }
+    ensures references { SameReferences (view pass.old) (view pass.new) }
     ensures block { (held_unboxed o (view pass.new)).block ≡ (held_unboxed o (view pass.old)).block }
     ensures moved { IsMoving (class_of (table_id table)) (known_items o (view pass.old))
         (known_items o (view pass.old) ++ known_items m (view pass.old)) count (count + more) (count + more)
@@ -157,6 +160,7 @@ pub(crate) fn put_added(
     ensures stack { stack_of pass.new ≡ stack_of pass.old }
     ensures list { WritesList (shape_of bank.now) o table (view pass.new) }
     ensures only { OnlyWritten o (view pass.old) (view pass.new) }
+    ensures references { SameReferences (view pass.old) (view pass.new) }
     ensures block { (held_unboxed o (view pass.new)).block ≡ (held_unboxed o (view pass.old)).block }
     ensures moved { IsMoving (class_of (table_id table)) (known_items o (view pass.old))
         (with_added addition (view pass.old) (known_items o (view pass.old))) (first_in addition count)

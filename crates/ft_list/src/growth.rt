@@ -130,6 +130,7 @@ fn begin_in(bank: &Bank, pass: &mut Pass, o: u32, old: Option<Table>, table: Tab
     ensures stack { stack_of pass.new ≡ stack_of pass.old }
     ensures rooted { HasRooted o (suc (table_id table)) (view pass.old) (view pass.new) }
     ensures list { WritesList (shape_of bank.now) o table (view pass.new) }
+    ensures references { SameReferences (view pass.old) (view pass.new) }
     ensures putting { (first past : ℕ) →
         IsPutting (class_of (table_id table)) (known_items o (view pass.old)) first past
         (stored_item (known_items o (view pass.old))) (held_unboxed o (view pass.new)).table }

@@ -1,21 +1,24 @@
 //! Single items of a list that a pass writes, for the calls on lists: each put of an item keeps true that
 //! its version is odd while its words differ from what the list had, so that readers without the lock
 //! take no half of it.
-ghost use Rattle.std.specs.Prelude.{◌≡◌, ◌≢◌, ℕ, ◌<◌, ◌%◌, ◌≤◌, false, true};
+ghost use Rattle.std.specs.Prelude.{◌≡◌, ◌≢◌, ℕ, ◌+◌, ◌<◌, ◌%◌, ◌≤◌, false, true};
 ghost use Rattle.ft_layout.specs.declared.slot.Stored.{Stored};
-ghost use Rattle.ft_layout.specs.Words.{FitsStored, IsStored, stored_kind};
+ghost use Rattle.ft_layout.specs.Words.{FitsStored, IsStored, stored_kind, stored_payload};
 ghost use Rattle.ft_trace.specs.Acts.{has_committed};
 ghost use Rattle.ft_trace.specs.Addresses.{class_of, slots};
+ghost use Rattle.ft_trace.specs.Boxes.{names_box, place_use, references_held, use_taken};
 ghost use Rattle.ft_trace.specs.BoxWords.{box_kind};
-ghost use Rattle.ft_trace.specs.Holds.{held_unboxed};
+ghost use Rattle.ft_trace.specs.Holds.{held_words, held_unboxed};
 ghost use Rattle.ft_trace.specs.ItemWords.{said_at, words_at};
 ghost use Rattle.ft_trace.specs.Pictures.{item_offset, item_field};
+ghost use Rattle.ft_bank.specs.BoxSteps.{HasReferenceFor};
 ghost use Rattle.ft_bank.specs.Passes.{shape_of, view, IsPassOf};
 ghost use Rattle.ft_bank.specs.PassSections.{stack_of};
 ghost use Rattle.ft_bank.specs.TableNames.{table_id, IsPlaceOf};
 ghost use Rattle.ft_bank.specs.SameBoxes.{SameReferences};
 ghost use Rattle.ft_bank.specs.Whole.{OnlyLoaded, OnlyPut, OnlyWritten, EndsWrite};
-ghost use Rattle.ft_list.specs.ListItemWrites.{WritesList, PutsItem, ClosesItem, IsChanging, MayFinishItems, known_items, with_word};
+ghost use Rattle.ft_search.specs.Boxed.{KeepsOwn};
+ghost use Rattle.ft_list.specs.ListItemWrites.{WritesList, PutsItem, ClosesItem, IsChanging, MayFinishItems, ReadsAs, known_items, stored_words, with_word};
 
 use crate::values::held_value;
 use ft_bank::{Bank, Pass, Table};
@@ -27,6 +30,8 @@ use ft_search::put_over;
 
 /// How many words of a table come before those that a bank counts.
 const HEADER: u64 = 2;
+/// The kind of a value that stands in a box.
+const BOX_KIND: u64 = 4;
 
 /// Which word of a table this word of an item is, counted from the header on.
 pub(crate) fn word_at(place: u64, word: u64) -> u64
@@ -65,6 +70,8 @@ fn open_item(bank: &Bank, pass: &mut Pass, o: u32, table: Table, start: u64, pla
     ensures stack { stack_of pass.new ≡ stack_of pass.old }
     ensures list { WritesList (shape_of bank.now) o table (view pass.new) }
     ensures only { OnlyWritten o (view pass.old) (view pass.new) }
+    ensures references { SameReferences (view pass.old) (view pass.new) }
+    ensures keeps { KeepsOwn (view pass.old) (view pass.new) }
     ensures words { (version : ℕ) × (version % 2 ≡ 1)
         × (held_unboxed o (view pass.new) ≡ with_word (held_unboxed o (view pass.old)) place 0 version) }
 {
@@ -108,8 +115,9 @@ pub(crate) fn item(
     item_of(&[0, kind, payload, 0]).unwrap_or(Stored::Empty)
 }
 
-/// Has an item store this in place, before the commit: its version is made odd, and its words are put; the reference of
-/// a box that they named is dropped. An item that reads so already is left alone.
+/// Has an item store this, before the commit: a value in place, or in a box for which the pass holds a reference and
+/// whose value, another one than the item's, it knows. Its version is made odd, and its words are put; the reference of
+/// the box is theirs then, and that of a box which they named is dropped. An item that reads so already is left alone.
 #[inline(always)]
 pub(crate) fn put_item(
     bank: &Bank,
@@ -126,18 +134,27 @@ pub(crate) fn put_item(
     requires start { IsPlaceOf (shape_of bank.now) table start }
     requires place { place < slots (class_of (table_id table)) }
     requires fits { FitsStored stored }
-    requires plain { stored_kind stored ≢ box_kind }
+    requires own { HasReferenceFor (view pass.old) (stored_kind stored) (stored_payload stored) }
+    requires fresh { stored_kind stored ≡ box_kind → (seen : Stored) → ReadsAs (view pass.old) stored seen →
+        stored_words seen ≢ said_at (held_unboxed o (view pass.old)).table place }
     ensures pass { IsPassOf bank.now pass.new }
     ensures stack { stack_of pass.new ≡ stack_of pass.old }
     ensures list { WritesList (shape_of bank.now) o table (view pass.new) }
     ensures only { OnlyWritten o (view pass.old) (view pass.new) }
     ensures block { (held_unboxed o (view pass.new)).block ≡ (held_unboxed o (view pass.old)).block }
-    ensures puts { PutsItem place stored (held_unboxed o (view pass.old)) (held_unboxed o (view pass.new)) }
+    ensures puts { (seen : Stored) → ReadsAs (view pass.old) stored seen →
+        PutsItem place seen (held_unboxed o (view pass.old)) (held_unboxed o (view pass.new)) }
+    ensures boxed { stored_kind stored ≡ box_kind →
+        (item_field (held_words o (view pass.new)).table place 1 ≡ stored_kind stored)
+        × (item_field (held_words o (view pass.new)).table place 2 ≡ stored_payload stored) }
+    ensures references { (b : ℕ) → references_held (shape_of bank.now) b (view pass.new).log
+        + names_box b (stored_kind stored) (stored_payload stored)
+        ≡ references_held (shape_of bank.now) b (view pass.old).log }
 {
     let kind = stored_kind_of(stored);
     let payload = stored_payload_of(stored);
     let (old_kind, old_payload) = held_value(bank, pass, o, table, start, place);
-    if old_kind == kind && old_payload == payload {
+    if old_kind == kind && old_payload == payload && kind != BOX_KIND {
         return;
     }
     open_item(bank, pass, o, table, start, place);
@@ -158,6 +175,7 @@ fn close_item(bank: &Bank, pass: &mut Pass, o: u32, table: Table, start: u64, pl
     ensures stack { stack_of pass.new ≡ stack_of pass.old }
     ensures list { WritesList (shape_of bank.now) o table (view pass.new) }
     ensures only { OnlyPut o (view pass.old) (view pass.new) }
+    ensures references { SameReferences (view pass.old) (view pass.new) }
     ensures item { ClosesItem place (held_unboxed o (view pass.old)) (held_unboxed o (view pass.new)) }
 {
     let version = read_version(bank, pass, o, table, start, place);
@@ -185,6 +203,7 @@ fn close_items(bank: &Bank, pass: &mut Pass, o: u32, table: Table, first: u64, p
     ensures stack { stack_of pass.new ≡ stack_of pass.old }
     ensures list { WritesList (shape_of bank.now) o table (view pass.new) }
     ensures only { OnlyPut o (view pass.old) (view pass.new) }
+    ensures references { SameReferences (view pass.old) (view pass.new) }
     ensures block { (held_unboxed o (view pass.new)).block ≡ (held_unboxed o (view pass.old)).block }
     ensures closed { IsChanging (class_of (table_id table)) (known_items o (view pass.old))
         (known_items o (view pass.old)) past past (held_unboxed o (view pass.new)).table }
@@ -216,6 +235,7 @@ pub(crate) fn finish(
     ensures stack { stack_of pass.new ≡ stack_of pass.old }
     ensures ends { EndsWrite called.now said.now result (view pass.old) (view pass.new) }
     ensures references { SameReferences (view pass.old) (view pass.new) }
+    ensures stored { (b : ℕ) → place_use b (view pass.new).log ≢ use_taken }
 {
     let number = bank.commit(pass, called, said);
     close_items(bank, pass, o, table, first, past);

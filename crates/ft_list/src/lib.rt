@@ -10,6 +10,7 @@
 mod adding;
 mod addition;
 mod bare;
+mod boxing;
 mod clearing;
 mod copies;
 mod floors;
@@ -34,6 +35,7 @@ mod values;
 mod writes;
 
 pub use crate::adding::{append_by, extend_by, insert_by};
+pub use crate::boxing::set_held;
 pub use crate::clearing::clear_by;
 pub use crate::copies::copy_items;
 pub use crate::floors::floor_items_stand;

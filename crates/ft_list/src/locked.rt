@@ -27,7 +27,7 @@ ghost use Rattle.ft_search.specs.OneEntryWrites.{HasTable};
 
 use crate::writes::{remove_item, set_item};
 use ft_bank::{Bank, Pass, Table};
-use ft_layout::block_word;
+use ft_layout::{Stored, block_word};
 use ft_model::{Call, ListCall, Raise, Reply, Value};
 use ft_search::{table_at, table_named};
 use ft_section::{Object, Stamp};
@@ -143,7 +143,17 @@ pub fn set_locked(
             let table = table_of(bank, pass, l);
             value_fits(value);
             let said = Reply::Done;
-            let number = set_item(bank, pass, l, table, place, value, &called, &said);
+            let number = set_item(
+                bank,
+                pass,
+                l,
+                table,
+                place,
+                value,
+                Stored::Plain(value),
+                &called,
+                &said,
+            );
             (
                 said,
                 Stamp {

@@ -3,11 +3,12 @@
 ghost use Rattle.std.specs.Prelude.{◌≡◌, ◌≢◌, ℕ, false, Option, Some};
 ghost use Rattle.ft_trace.specs.declared.Act.TheVariants.{StartWrite};
 ghost use Rattle.ft_trace.specs.Acts.{is_writing, view_after};
-ghost use Rattle.ft_trace.specs.Boxes.{named_in_root, IsDoneWithBoxes};
+ghost use Rattle.ft_trace.specs.Boxes.{named_in_root, IsSettled};
 ghost use Rattle.ft_trace.specs.ContainerStates.{kind_in};
 ghost use Rattle.ft_trace.specs.Holds.{held_unboxed};
 ghost use Rattle.ft_bank.specs.Passes.{shape_of, view, IsPassOf};
 ghost use Rattle.ft_bank.specs.PassSections.{stack_of};
+ghost use Rattle.ft_bank.specs.SameBoxes.{SameReferences};
 ghost use Rattle.ft_bank.specs.TableNames.{root_for, words_for, IsTableIn};
 ghost use Rattle.ft_bank.specs.WriteSteps.{MayPutRoot, with_unboxed_root};
 ghost use Rattle.ft_bank.specs.declared.table.Table.{Table};
@@ -47,7 +48,7 @@ pub(crate) fn put_other_root(
     requires pass { IsPassOf bank.now pass.old }
     requires list { KnowsList (shape_of bank.now) o old (view pass.old) }
     requires even { (p : ℕ) → is_writing p (view pass.old).log ≡ false }
-    requires boxes { IsDoneWithBoxes (shape_of bank.now) (view pass.old).log }
+    requires settled { IsSettled (view pass.old).log }
     requires table { (t : Table) → root ≡ Some t → IsTableIn (shape_of bank.now) t }
     requires other { root_for old ≢ root_for root }
     requires plain { (b : ℕ) → named_in_root b (kind_in (view pass.old).shape.starts o) (root_for root) (words_for root (view pass.old)) ≡ 0 }
@@ -55,7 +56,8 @@ pub(crate) fn put_other_root(
     ensures pass { IsPassOf bank.now pass.new }
     ensures stack { stack_of pass.new ≡ stack_of pass.old }
     ensures rooted { HasRooted o (root_for root) (view pass.old) (view pass.new) }
-    ensures boxes { IsDoneWithBoxes (shape_of bank.now) (view pass.new).log }
+    ensures settled { IsSettled (view pass.new).log }
+    ensures references { SameReferences (view pass.old) (view pass.new) }
     ensures words { held_unboxed o (view pass.new) ≡
         with_unboxed_root (held_unboxed o (view pass.old)) o root (view pass.old) }
 {

@@ -41,6 +41,7 @@ fn swap(bank: &Bank, pass: &mut Pass, o: u32, table: Table, count: u64, at: u64)
     ensures stack { stack_of pass.new ≡ stack_of pass.old }
     ensures list { WritesList (shape_of bank.now) o table (view pass.new) }
     ensures only { OnlyWritten o (view pass.old) (view pass.new) }
+    ensures references { SameReferences (view pass.old) (view pass.new) }
     ensures block { (held_unboxed o (view pass.new)).block ≡ (held_unboxed o (view pass.old)).block }
     ensures turned { (values : List Value) → length values ≡ count →
         IsTurning (class_of (table_id table)) values at (held_unboxed o (view pass.old)).table →
@@ -66,6 +67,7 @@ fn turn(bank: &Bank, pass: &mut Pass, o: u32, table: Table, count: u64)
     ensures stack { stack_of pass.new ≡ stack_of pass.old }
     ensures list { WritesList (shape_of bank.now) o table (view pass.new) }
     ensures only { OnlyWritten o (view pass.old) (view pass.new) }
+    ensures references { SameReferences (view pass.old) (view pass.new) }
     ensures block { (held_unboxed o (view pass.new)).block ≡ (held_unboxed o (view pass.old)).block }
     ensures turned { (values : List Value) → length values ≡ count →
         IsPutting (class_of (table_id table)) values 0 count (stored_item values) (held_unboxed o (view pass.old)).table →

@@ -1,6 +1,6 @@
 //! What calls do to a list whose lock the pass has and whose table has room: each is one whole write, in
 //! which the items that change are put one by one.
-ghost use Rattle.std.specs.Prelude.{◌≡◌, ℕ, ◌+◌, ◌<◌, ◌≤◌, List, false, length, Some, slice_set, []};
+ghost use Rattle.std.specs.Prelude.{◌≡◌, ◌≢◌, ℕ, ◌+◌, ◌<◌, ◌≤◌, List, false, length, Some, slice_set, []};
 ghost use Rattle.std.specs.List.{insert, remove};
 ghost use Rattle.ft_model.specs.declared.call.Call.TheVariants as call;
 ghost use Rattle.ft_model.specs.declared.call.ListCall.{ListCall};
@@ -10,20 +10,24 @@ ghost use Rattle.ft_model.specs.declared.reply.Reply.TheVariants as reply;
 ghost use Rattle.ft_layout.specs.declared.slot.Stored.{Stored};
 ghost use Rattle.ft_layout.specs.declared.slot.Stored.TheVariants.{Empty, Plain};
 ghost use Rattle.ft_layout.specs.Containers.{IsBlock};
-ghost use Rattle.ft_layout.specs.Words.{FitsStored, IsStored};
+ghost use Rattle.ft_layout.specs.Words.{FitsStored, IsStored, stored_kind, stored_payload};
 ghost use Rattle.ft_trace.specs.declared.Act.TheVariants.{StartWrite};
 ghost use Rattle.ft_trace.specs.Acts.{has_committed};
 ghost use Rattle.ft_trace.specs.Addresses.{class_of, slots};
+ghost use Rattle.ft_trace.specs.Boxes.{names_box, place_use, references_held, use_taken};
+ghost use Rattle.ft_trace.specs.BoxWords.{box_kind};
 ghost use Rattle.ft_trace.specs.Holds.{held_unboxed, known_state};
 ghost use Rattle.ft_trace.specs.Pictures.{item_field, root_in};
+ghost use Rattle.ft_bank.specs.BoxSteps.{HasReferenceFor};
 ghost use Rattle.ft_bank.specs.Passes.{shape_of, view, IsPassOf, Did};
 ghost use Rattle.ft_bank.specs.PassSections.{stack_of};
 ghost use Rattle.ft_bank.specs.TableNames.{table_id, IsPlaceOf};
 ghost use Rattle.ft_bank.specs.SameBoxes.{SameReferences};
 ghost use Rattle.ft_bank.specs.Whole.{OnlyLoaded, OnlyWritten, Wrote};
-ghost use Rattle.ft_list.specs.ListItemWrites.{WritesList, IsPutting, known_items, stored_item};
+ghost use Rattle.ft_list.specs.ListItemWrites.{ReadsAs, WritesList, IsPutting, known_items, stored_item};
 ghost use Rattle.ft_list.specs.Internal.Moving.{IsMoving};
-ghost use Rattle.ft_list.specs.ListWrites.{MayWriteList, Changes};
+ghost use Rattle.ft_list.specs.Internal.StoredBoxes.{StoresBox};
+ghost use Rattle.ft_list.specs.ListWrites.{MayBeginList, MayWriteList, Changes};
 ghost use Rattle.ft_list.specs.Internal.Additions.{count_in, with_added, IsAddition};
 ghost use Rattle.ft_search.specs.OneEntryWrites.{HasTable};
 
@@ -39,7 +43,7 @@ const LENGTH: u64 = block_word::USED - block_word::ROOT;
 /// Makes the version of a list odd. Its items are as they were.
 pub(crate) fn begin(bank: &Bank, pass: &mut Pass, o: u32, table: Table)
     requires pass { IsPassOf bank.now pass.old }
-    requires may { MayWriteList (shape_of bank.now) o (view pass.old) }
+    requires may { MayBeginList (shape_of bank.now) o (view pass.old) }
     requires table { HasTable (shape_of bank.now) o table (view pass.old) }
     ensures pass { IsPassOf bank.now pass.new }
     ensures did { (f : ℕ) × Did (StartWrite o f) pass.old pass.new }
@@ -57,7 +61,9 @@ pub(crate) fn begin(bank: &Bank, pass: &mut Pass, o: u32, table: Table)
     bank.start_write(pass, o);
 }
 
-/// Has the item at a place store a value, as the write of this call. Answers the number of the write.
+/// Has the item at a place store a value, as the write of this call: in place, or in a box for which the pass holds a
+/// reference, where the item had another value; that reference is the list's then. A box that the pass has made and that
+/// no write has stored is stored by this one. Answers the number of the write.
 pub(crate) fn set_item(
     bank: &Bank,
     pass: &mut Pass,
@@ -65,25 +71,34 @@ pub(crate) fn set_item(
     table: Table,
     place: u64,
     value: Value,
+    stored: Stored,
     called: &Call,
     said: &Reply,
 ) -> u64
     requires pass { IsPassOf bank.now pass.old }
-    requires may { MayWriteList (shape_of bank.now) o (view pass.old) }
+    requires may { MayBeginList (shape_of bank.now) o (view pass.old) }
     requires table { HasTable (shape_of bank.now) o table (view pass.old) }
     requires place { place < length (known_items o (view pass.old)) }
-    requires value { FitsStored (Plain value) }
+    requires fits { FitsStored stored }
+    requires own { HasReferenceFor (view pass.old) (stored_kind stored) (stored_payload stored) }
+    requires reads { ReadsAs (view pass.old) stored (Plain value) }
+    requires fresh { stored_kind stored ≡ box_kind → stored_item (known_items o (view pass.old)) place ≢ Plain value }
+    requires stores { StoresBox stored called.now (view pass.old) }
     requires call { (lc : ListCall) × (called.now ≡ call.List o lc) × Changes o lc said.now
         (known_items o (view pass.old)) (slice_set (known_items o (view pass.old)) place value) (view pass.old) }
     ensures pass { IsPassOf bank.now pass.new }
     ensures stack { stack_of pass.new ≡ stack_of pass.old }
     ensures wrote { Wrote called.now said.now result (view pass.old) (view pass.new) }
     ensures root { root_in (held_unboxed o (view pass.new)) ≡ root_in (held_unboxed o (view pass.old)) }
-    ensures references { SameReferences (view pass.old) (view pass.new) }
+    ensures references { (b : ℕ) → references_held (shape_of bank.now) b (view pass.new).log
+        + names_box b (stored_kind stored) (stored_payload stored)
+        ≡ references_held (shape_of bank.now) b (view pass.old).log }
+    ensures stored { (b : ℕ) → place_use b (view pass.new).log ≢ use_taken }
 {
+    let _ = value;
     begin(bank, pass, o, table);
     let start = bank.cell_of(table);
-    put_item(bank, pass, o, table, start, place, Stored::Plain(value));
+    put_item(bank, pass, o, table, start, place, stored);
     finish(bank, pass, o, table, called, said, place, place + 1)
 }
 
@@ -109,6 +124,7 @@ pub(crate) fn shift_up(
     ensures stack { stack_of pass.new ≡ stack_of pass.old }
     ensures list { WritesList (shape_of bank.now) o table (view pass.new) }
     ensures only { OnlyWritten o (view pass.old) (view pass.new) }
+    ensures references { SameReferences (view pass.old) (view pass.new) }
     ensures block { (held_unboxed o (view pass.new)).block ≡ (held_unboxed o (view pass.old)).block }
     ensures moved { (values : List Value) → length values ≡ count →
         IsPutting (class_of (table_id table)) values place (count + 1) (stored_item values) (held_unboxed o (view pass.old)).table →
@@ -136,6 +152,7 @@ pub(crate) fn put_last(bank: &Bank, pass: &mut Pass, o: u32, table: Table, count
     ensures stack { stack_of pass.new ≡ stack_of pass.old }
     ensures list { WritesList (shape_of bank.now) o table (view pass.new) }
     ensures only { OnlyWritten o (view pass.old) (view pass.new) }
+    ensures references { SameReferences (view pass.old) (view pass.new) }
     ensures block { (held_unboxed o (view pass.new)).block ≡ (held_unboxed o (view pass.old)).block }
     ensures moved { (values : List Value) → length values ≡ count →
         IsPutting (class_of (table_id table)) values count (count + 1) (stored_item values) (held_unboxed o (view pass.old)).table →
@@ -201,6 +218,7 @@ fn shift_down(bank: &Bank, pass: &mut Pass, o: u32, table: Table, place: u64, co
     ensures stack { stack_of pass.new ≡ stack_of pass.old }
     ensures list { WritesList (shape_of bank.now) o table (view pass.new) }
     ensures only { OnlyWritten o (view pass.old) (view pass.new) }
+    ensures references { SameReferences (view pass.old) (view pass.new) }
     ensures block { (held_unboxed o (view pass.new)).block ≡ (held_unboxed o (view pass.old)).block }
     ensures moved { (values : List Value) → length values ≡ count →
         IsPutting (class_of (table_id table)) values place count (stored_item values) (held_unboxed o (view pass.old)).table →

@@ -25,7 +25,7 @@ use Rattle.ft_trace.specs.declared.Snap.{Snap}
 use Rattle.ft_trace.specs.declared.View.{View}
 use Rattle.ft_trace.specs.Acts.{has_lock, has_committed, is_writing, view_after, seen_writes}
 use Rattle.ft_trace.specs.Addresses.{container_count, class_of, slots, places}
-use Rattle.ft_trace.specs.Boxes.{IsDoneWithBoxes}
+use Rattle.ft_trace.specs.Boxes.{references_held, IsSettled}
 use Rattle.ft_trace.specs.Carefuls.{said_of, IsDead, HasLiveKey, OpensChanged}
 use Rattle.ft_trace.specs.Holds.{held_unboxed, known_state}
 use Rattle.ft_trace.specs.Kinds.{under, rows, version_at, CarefulAs, ClearAs, IsKeyed}
@@ -46,7 +46,7 @@ use Rattle.ft_bank.specs.SameBoxes.{SameReferences}
 use Rattle.ft_bank.proofs.KnownAfterWrites.{loaded_put, work_knows, write_ends}
 use Rattle.ft_search.specs.OneEntryWrites.{raised_at}
 use Rattle.ft_search.proofs.Changing.{kind_is}
-use Rattle.ft_search.proofs.Puts.{entry_refs, few_done, keyed_version, table_class, writes_on}
+use Rattle.ft_search.proofs.Puts.{entry_refs, few_same, keyed_version, table_class, writes_on}
 use Rattle.ft_merging.specs.Internal.EntriesAtOnce.{IsClosing, MayFinishAll, NoneDead, version_of}
 
 -- ---- what words say that stand for a dict or a set
@@ -228,7 +228,7 @@ module _ (laws : Laws) (k : Shape) (o : ℕ) (table : Table) (place fill : ℕ) 
         care = subst (λ (z : Kind). CarefulAs z (class_of ct) (held_unboxed o v).table (known_state o v).content at (entry_field cn (held_unboxed o v).table place 0 + 1)) (kind_eq ∙ sym (ap (λ (z : Shape). kind_in z.starts o) shape)) care;
         timely = subst (λ (b : Bool). Timely (version_at (kind_in v.shape.starts o) (class_of ct)) (rows (kind_in v.shape.starts o) (class_of ct)) at (entry_field cn (held_unboxed o v).table place 0 + 1) b) (sym closing.late)
             (record { before = λ q less is one. absurd (omega (arith, one, odd)); later = λ q less is two. refl });
-        references = entry_refs v o ct place 0 (entry_field cn (held_unboxed o v).table place 0 + 1) (subst (λ (z : Shape). IsKeyed (kind_in z.starts o)) (sym shape) closing.writes.keyed) (omega arith) (λ e. absurd (omega (arith, e))) (λ e. absurd (omega (arith, e))) (few_done k v shape closing.writes.boxes);
+        references = entry_refs v o ct place 0 (entry_field cn (held_unboxed o v).table place 0 + 1) (subst (λ (z : Shape). IsKeyed (kind_in z.starts o)) (sym shape) closing.writes.keyed) (omega arith) (λ e. absurd (omega (arith, e))) (λ e. absurd (omega (arith, e))) closing.writes.few;
       }
 
   pub closing_raised : dict.EntryVersionsChangeNothing → (z : View) → OnlyPut o v z → SameReferences v z → held_unboxed o z ≡ raised_at ct place (held_unboxed o v) → version_of ct (held_unboxed o v) place % 2 ≡ 1 → IsClosing k o table (place + 1) fill z
@@ -284,7 +284,8 @@ module _ (k : Shape) (o : ℕ) (table : Table) (fill : ℕ) (called : Call) (sai
           locked = ap (λ (z : View). has_lock o z.log) is ∙ b.writes.locked;
           odd = ap (λ (z : View). is_writing o z.log) is ∙ b.writes.odd;
           root = ap (λ (z : View). root_in (held_unboxed o z)) is ∙ b.writes.root;
-          boxes = subst (λ (z : View). IsDoneWithBoxes k z.log) (sym is) b.writes.boxes;
+          settled = subst (λ (z : View). IsSettled z.log) (sym is) (let s = b.writes.settled in record { unmade = s.unmade; counted = s.counted; whole = s.whole; given = s.given });
+          few = few_same u w (λ x. ap (λ (z : View). references_held z.shape x z.log) is) b.writes.few;
         };
         late = ap (λ (z : View). has_committed o z.log) is;
         stands = subst (λ (y : ContainerWords × ContainerState). Represents k.texts y.0 y.1) (λ d. (held_then d, known_then d)) b.stands;

@@ -20,6 +20,7 @@ use Rattle.ft_trace.specs.declared.Shape.{Shape}
 use Rattle.ft_trace.specs.declared.View.{View}
 use Rattle.ft_trace.specs.Acts.{has_emptied, is_writing, owes}
 use Rattle.ft_trace.specs.Addresses.{class_of, container_count, slots}
+use Rattle.ft_trace.specs.Boxes.{place_use, use_taken}
 use Rattle.ft_trace.specs.Carefuls.{HasLiveKey, OpensChanged}
 use Rattle.ft_trace.specs.Holds.{held_unboxed, known_state}
 use Rattle.ft_trace.specs.Kinds.{ClearAs, IsKeyed, rows, under}
@@ -266,7 +267,7 @@ joining_begins k o by own t table d counts more u midway same_kind kind_eq count
 
 -- ---- after the last one
 
-module _ (laws : Laws) (k : Shape) (o : ℕ) (by : Way) (own : Table) (t : ℕ) (table : Table) (end fill : ℕ) (counts : Counts) (v u : View) (since : Since o v u) (shape : v.shape ≡ k) (low : o < container_count k) (some : 0 < v.left) (called : Call) (joins : JoinsKeys o t called v) (cap : passes_cap (joined (known_state o v).content (known_state t v).content) ≡ false)
+module _ (laws : Laws) (k : Shape) (o : ℕ) (by : Way) (own : Table) (t : ℕ) (table : Table) (end fill : ℕ) (counts : Counts) (v u : View) (since : Since o v u) (shape : v.shape ≡ k) (low : o < container_count k) (some : 0 < v.left) (untaken : (b : ℕ) → place_use b v.log ≢ use_taken) (called : Call) (joins : JoinsKeys o t called v) (cap : passes_cap (joined (known_state o v).content (known_state t v).content) ≡ false)
     (takes : (found : StoredWorld) (class : ℕ) → MayHave v found → owes v.log ≡ suc class → takes_in found called ≡ Some class) (left_table : (joined_state (known_state o v) (known_state t v).content).table ≡ use_with (class_of (table_id own)) end) (j : IsJoining k o by own t table (joined (known_state o v).content (known_state t v).content) end fill counts u) (all : fill ≡ (known_state t u).table.fill) where
   abbrev c : ℕ
   c = class_of (table_id own)
@@ -331,6 +332,7 @@ module _ (laws : Laws) (k : Shape) (o : ℕ) (by : Way) (own : Table) (t : ℕ) 
         takes = λ found class has owed. takes found class (has_since o v u since found has) (sym since.owes ∙ owed);
         empties = λ e. absurd (true≢false (sym e ∙ subst (λ (n : ℕ). has_emptied n u.log ≡ false) name since.emptied));
         locks = λ p e. since.locks p ∙ joins.locks p e;
+        stores = λ found has. ((λ b taken. absurd (untaken b (since.places b taken))), (λ b c taken other. absurd (untaken b (since.places b taken))));
       }
 
   pub joined_finishes : MayFinishAll k o own end called reply.Done u

@@ -109,7 +109,7 @@ module _ (heads : Heads) (laws : Laws) (k : Shape) (o : ℕ) (by : Way) (own : T
 
   midway : IsMidway k o own (record { content = d; table = use_with c counts.fill }) u
   midway = record {
-    writes = writes_begun k o own v u f begun (may_write k o (Some own) v may) (record { table_in = table_in; root = may.keyed.root });
+    writes = writes_begun k o own v u f shape begun (may_write k o (Some own) v may) (record { table_in = table_in; root = may.keyed.root });
     early = ap (λ (z : View). has_committed o z.log) begun ∙ hit o false (has_committed o v.log);
     stands = subst (λ (x : ContainerWords). Represents k.texts x (record { content = d; table = use_with c counts.fill })) held_back (subst (λ (z : TableUse). Represents k.texts (held_unboxed o v) (record { content = d; table = z })) use_is may.keyed.stands);
     same = λ p key less even live. ap (λ (z : ContainerState). under z.content key) (known_back o);

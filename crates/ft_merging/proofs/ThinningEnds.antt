@@ -167,7 +167,7 @@ module _ (k : Shape) (s : ℕ) (table : Table) (kept : Bool) (others : SetConten
   thinned_begins elements = record {
     mid = first;
     midway = record {
-      writes = writes_begun k s table v u f begun may has;
+      writes = writes_begun k s table v u f shape begun may has;
       early = ap (λ (z : View). has_committed s z.log) begun ∙ hit s false (has_committed s v.log);
       stands = subst (λ (z : ContainerWords). Represents k.texts z (record { content = content.Set first; table = (known_state s v).table })) held_back first_stands;
       same = λ p key less even live. ap (λ (z : Content). under z key) (sym first_known ∙ ap (λ (z : ContainerState). z.content) known_back);
@@ -211,7 +211,7 @@ module _ (k : Shape) (s : ℕ) (table : Table) (kept : Bool) (others : SetConten
 
     pub thinned_finishes : MayFinishAll k s table table_left.fill called said w
     thinned_finishes = record {
-      may = may_commit s v u w f begun only called said after leaves (subst (λ (z : Shape). s < container_count z) (sym shape) may.container) may.left may.owes clears;
+      may = may_commit s v u w f begun only called said after leaves (subst (λ (z : Shape). s < container_count z) (sym shape) may.container) may.left may.owes may.boxes.stored clears;
       changed = leaves.changed;
       left = after;
       left_is = (leaves_later s v u w f begun only called said after leaves).left_is;

@@ -29,6 +29,7 @@ fn close_at(bank: &Bank, pass: &mut Pass, o: Object, table: Table, place: u64, f
     ensures pass { IsPassOf bank.now pass.new }
     ensures stack { stack_of pass.new ≡ stack_of pass.old }
     ensures only { OnlyPut o (view pass.old) (view pass.new) }
+    ensures references { SameReferences (view pass.old) (view pass.new) }
     ensures closing { IsClosing (shape_of bank.now) o table (place + 1) fill (view pass.new) }
 {
     let _ = fill;
@@ -49,6 +50,7 @@ fn close_all(bank: &Bank, pass: &mut Pass, o: Object, table: Table, fill: u64)
     ensures pass { IsPassOf bank.now pass.new }
     ensures stack { stack_of pass.new ≡ stack_of pass.old }
     ensures only { OnlyPut o (view pass.old) (view pass.new) }
+    ensures references { SameReferences (view pass.old) (view pass.new) }
     ensures closing { IsClosing (shape_of bank.now) o table fill fill (view pass.new) }
 {
     for place in 0..fill {

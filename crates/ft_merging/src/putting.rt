@@ -97,6 +97,7 @@ fn put_stored(
     ensures stack { stack_of pass.new ≡ stack_of pass.old }
     ensures writes { WritesEntries (shape_of bank.now) o own (view pass.new) }
     ensures only { OnlyWritten o (view pass.old) (view pass.new) }
+    ensures references { SameReferences (view pass.old) (view pass.new) }
     ensures words { held_unboxed o (view pass.new) ≡ with_puts (held_unboxed o (view pass.old))
         (stored_puts (slots (class_of (table_id own))) (held_unboxed o (view pass.old)).table place stored) }
 {
@@ -150,6 +151,7 @@ fn join_at(
     ensures joining { IsJoining (shape_of bank.now) o way own t table
         (joined (known_state o (view pass.old)).content (known_state t (view pass.old)).content) end (place + 1) result
         (view pass.new) }
+    ensures references { SameReferences (view pass.old) (view pass.new) }
     ensures more { counts.fill ≤ result.fill }
     ensures keeps { kind_by way ≡ kind.Set →
         KeepsBelow (table_id own) counts.fill (held_unboxed o (view pass.old)) (held_unboxed o (view pass.new)) }
@@ -209,6 +211,7 @@ pub(crate) fn join_all(
     ensures joining { IsJoining (shape_of bank.now) o way own t table
         (joined (known_state o (view pass.old)).content (known_state t (view pass.old)).content) end fill result
         (view pass.new) }
+    ensures references { SameReferences (view pass.old) (view pass.new) }
     ensures keeps { kind_by way ≡ kind.Set →
         KeepsBelow (table_id own) first.fill (held_unboxed o (view pass.old)) (held_unboxed o (view pass.new)) }
 {

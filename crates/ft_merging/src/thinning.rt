@@ -117,6 +117,7 @@ fn thin_at(bank: &Bank, pass: &mut Pass, s: Object, table: Table, t: Object, kep
     ensures pass { IsPassOf bank.now pass.new }
     ensures stack { stack_of pass.new ≡ stack_of pass.old }
     ensures only { OnlyWritten s (view pass.old) (view pass.new) }
+    ensures references { SameReferences (view pass.old) (view pass.new) }
     ensures thinned { (to : ContainerState) (last : ℕ) → place < last →
         IsThinned (shape_of bank.now) s table kept (set_of (known_state t (view pass.old)).content)
         (set_of (known_state s (view pass.old)).content) to last place (view pass.old) →
@@ -152,6 +153,7 @@ pub(crate) fn thin_all(
     ensures pass { IsPassOf bank.now pass.new }
     ensures stack { stack_of pass.new ≡ stack_of pass.old }
     ensures only { OnlyWritten s (view pass.old) (view pass.new) }
+    ensures references { SameReferences (view pass.old) (view pass.new) }
     ensures thinned { (to : ContainerState) → IsThinned (shape_of bank.now) s table kept
         (set_of (known_state t (view pass.old)).content) (set_of (known_state s (view pass.old)).content) to fill 0
         (view pass.old) →

@@ -1,13 +1,13 @@
 -- A dict or a set whose root was put: the pass holds the references of the boxes that the table which was taken out names,
 -- and drops them.
-use Rattle.std.proofs.Common.{◌≡◌, ◌≢◌, ℕ, suc, ◌<◌, true, cond, Option, Some, None, refl, sym, ap, ◌∙◌, subst, arith, get_or-set_same}
+use Rattle.std.proofs.Common.{◌≡◌, ◌≢◌, ℕ, suc, ◌+◌, ◌<◌, ◌≤◌, true, cond, Option, Some, None, refl, sym, ap, ◌∙◌, subst, arith, get_or-set_same}
 use Rattle.std.specs.Prelude.{◌==◌, slice_set}
 use Rattle.ft_trace.specs.declared.Act.TheVariants.{StartWrite, PutRoot}
 use Rattle.ft_trace.specs.declared.Shape.{Shape}
 use Rattle.ft_trace.specs.declared.View.{View}
 use Rattle.ft_trace.specs.Acts.{has_lock, is_writing, mem, stage, view_after}
 use Rattle.ft_trace.specs.Addresses.{container_count, class_of, IsTableName}
-use Rattle.ft_trace.specs.Boxes.{named_in_root, references_held, IsDoneWithBoxes}
+use Rattle.ft_trace.specs.Boxes.{named_in_root, references_held, IsSettled}
 use Rattle.ft_trace.specs.ContainerStates.{kind_in}
 use Rattle.ft_trace.specs.Holds.{held_words, held_unboxed, in_hand}
 use Rattle.ft_trace.specs.Kinds.{rows}
@@ -16,21 +16,21 @@ use Rattle.ft_trace.specs.Traces.{IsReachable}
 use Rattle.ft_trace.proofs.Cases.{hit, miss}
 use Rattle.ft_trace.proofs.Pieces.{block_long}
 use Rattle.ft_bank.specs.declared.table.Table.{Table}
-use Rattle.ft_bank.specs.SameBoxes.{named_in_words, MovesReferences, SameMade}
+use Rattle.ft_bank.specs.SameBoxes.{named_in_words, MovesReferences, SameMade, SameReferences, StaysSettled}
 use Rattle.ft_bank.specs.TableNames.{table_id, root_for, IsTableIn}
 use Rattle.ft_bank.specs.Whole.{OnlyBoxed}
 use Rattle.ft_bank.specs.WriteSteps.{KeepsUnwritten}
-use Rattle.ft_bank.proofs.BoxedSteps.{made_then}
-use Rattle.ft_bank.proofs.DoneBoxes.{done_none, none_named}
+use Rattle.ft_bank.proofs.DoneBoxes.{none_named, stays_settled_same}
 use Rattle.ft_bank.proofs.KnownAfterWrites.{boxed_written}
 use Rattle.ft_bank.proofs.TableAddresses.{named}
 use Rattle.ft_bank.proofs.WordsPut.{taken_words}
 use Rattle.ft_search.specs.OneEntryWrites.{WritesEntries}
 use Rattle.ft_search.proofs.Overs.{boxed_held}
-use Rattle.ft_table_calls.specs.Dropping.{HoldsNamed, SharesBoxes}
-use Rattle.ft_table_calls.proofs.Dropped.{holds_named, shares_done}
+use Rattle.ft_table_calls.specs.Dropping.{HoldsNamed}
+use Rattle.ft_table_calls.proofs.Dropped.{dropped_named, holds_named}
 use Rattle.ft_table_calls.proofs.PlainTables.{ArePlain, plain_named}
-use Rattle.ft_new_keys.specs.KeyGrowth.{BeginsIn, HoldsOld, MayGrowKeyed}
+use Rattle.ft_search.proofs.Puts.{few_done, few_same}
+use Rattle.ft_new_keys.specs.KeyGrowth.{BeginsIn, HoldsOld, MayGrowKeyed, named_in_old}
 use Rattle.ft_new_keys.proofs.Keyed.{fresh_other}
 
 module _ (k : Shape) (o : ℕ) (old : Option Table) (table : Table) (v s r : View) (f : ℕ) (shape : v.shape ≡ k) (possible : ∥ IsReachable v ∥₁) (may : MayGrowKeyed k o old table v) (plain : ArePlain (kind_in v.shape.starts o) (class_of (table_id table)) (in_hand (table_id table) v) (rows (kind_in v.shape.starts o) (class_of (table_id table)))) (started : s ≡ view_after (StartWrite o f) v)
@@ -56,11 +56,8 @@ module _ (k : Shape) (o : ℕ) (old : Option Table) (table : Table) (v s r : Vie
   low : o < container_count v.shape
   low = subst (λ (z : Shape). o < container_count z) (sym shape) may.keyed.container
 
-  done_v : IsDoneWithBoxes v.shape v.log
-  done_v = subst (λ (z : Shape). IsDoneWithBoxes z v.log) (sym shape) may.boxes
-
   made_r : SameMade v r
-  made_r = subst (SameMade v) (sym is_rooted) (record { state = λ b. refl; local = λ b. refl; taken = λ b. refl; places = λ b. refl })
+  made_r = subst (SameMade v) (sym is_rooted) (record { state = λ b. refl; local = λ b. refl; taken = λ b. refl; places = λ b. refl; uses = λ b. refl })
 
   root_r : root_in (held_words o r) ≡ suc (table_id table)
   root_r =
@@ -94,37 +91,51 @@ module _ (k : Shape) (o : ℕ) (old : Option Table) (table : Table) (v s r : Vie
               ∙ (ap (λ (z : ℕ). cond (z == suc (table_id t)) 3 n) was_root ∙ hit (suc (table_id t)) 3 n)),
         )
 
-    was_named : HoldsNamed k o (table_id t) r
-    was_named =
-        let hand : in_hand (table_id t) r ≡ (held_words o v).table =
+    was_hand : in_hand (table_id t) r ≡ (held_words o v).table
+    was_hand =
         ap (λ (z : View). in_hand (table_id t) z) is_rooted
-        ∙ taken_words begun o (table_id t) (suc (table_id table)) (root_in (held_words o v)) low (subst (λ (z : Shape). IsTableName z (table_id t)) (sym shape) (named k t was_in)) was_root in
-        holds_named k o (table_id t) begun r shape shape_r may.boxes moves_begun was_root hand none_r
+        ∙ taken_words begun o (table_id t) (suc (table_id table)) (root_in (held_words o v)) low (subst (λ (z : Shape). IsTableName z (table_id t)) (sym shape) (named k t was_in)) was_root
 
-  pub shared_r : SharesBoxes r
-  shared_r = shares_done k v r may.boxes made_r
+    was_named : HoldsNamed k o (table_id t) r
+    was_named = holds_named k o (table_id t) begun r shape shape_r moves_begun was_root was_hand none_r
+
+  pub settled_r : IsSettled r.log
+  settled_r = (stays_settled_same v r made_r).settled may.boxes.settled
 
   pub held_old : HoldsOld k o old r
   held_old = by old refl
     where
       by : (any : Option Table) → old ≡ any → HoldsOld k o any r
       by (Some t) has = was_named t has
-      by None has = λ b.
-          let moved = moves_begun b in
-          let none = none_r b in
-          let done = (done_v b).0 in
-          let bare = none_named b (kind_in v.shape.starts o) (held_words o v) (may.keyed.root ∙ ap root_for has) in
-          let now : references_held k b r.log ≡ references_held r.shape b r.log = ap (λ (z : Shape). references_held z b r.log) (sym (shape_r ∙ shape)) in
-          omega (arith, moved, none, done, bare, now)
+      by None has = λ b. omega arith
 
   -- ---- after the drop
 
-  module _ (w : View) (boxed : OnlyBoxed r w) (made : SameMade r w) (none : (b : ℕ) → references_held k b w.log ≡ 0) where
+  module _ (w : View) (boxed : OnlyBoxed r w) (made : StaysSettled r w) (dropped : (b : ℕ) → references_held k b w.log + named_in_old k o old r b ≡ references_held k b r.log) where
     shape_w : w.shape ≡ k
     shape_w = boxed.work.pass.shape ∙ (shape_r ∙ shape)
 
-    gone : (b : ℕ) → references_held w.shape b w.log ≡ 0
-    gone b = ap (λ (z : Shape). references_held z b w.log) shape_w ∙ none b
+    fewer : (b : ℕ) → references_held w.shape b w.log ≤ references_held r.shape b r.log
+    fewer b =
+        let less = dropped b in
+        let now : references_held w.shape b w.log ≡ references_held k b w.log = ap (λ (z : Shape). references_held z b w.log) shape_w in
+        let was : references_held r.shape b r.log ≡ references_held k b r.log = ap (λ (z : Shape). references_held z b r.log) (shape_r ∙ shape) in
+        omega (arith, less, now, was)
+
+    -- the pass holds what it held before the write
+    pub begun_references : SameReferences v w
+    begun_references = by old refl dropped
+      where
+        by : (any : Option Table) → old ≡ any → ((b : ℕ) → references_held k b w.log + named_in_old k o any r b ≡ references_held k b r.log) → SameReferences v w
+        by (Some t) has less = dropped_named k o (table_id t) begun r w shape shape_r boxed.work.pass.shape moves_begun (was_root t has) (was_hand t has) none_r less
+        by None has less = λ b.
+            let moved = moves_begun b in
+            let none = none_r b in
+            let bare = none_named b (kind_in v.shape.starts o) (held_words o v) (may.keyed.root ∙ ap root_for has) in
+            let now : references_held w.shape b w.log ≡ references_held k b w.log = ap (λ (z : Shape). references_held z b w.log) shape_w in
+            let was : references_held r.shape b r.log ≡ references_held k b r.log = ap (λ (z : Shape). references_held z b r.log) (shape_r ∙ shape) in
+            let same = less b in
+            omega (arith, moved, none, bare, now, was, same)
 
     pub begins : BeginsIn o table v w
     begins = record {
@@ -133,7 +144,7 @@ module _ (k : Shape) (o : ℕ) (old : Option Table) (table : Table) (v s r : Vie
       is = is_rooted;
       keeps = keeps_begun;
       moves = moves_begun;
-      only = boxed_written o r w boxed made (λ b. let z = gone b in omega (arith, z));
+      only = boxed_written o r w boxed made fewer;
     }
 
     pub begun_writes : WritesEntries k o table w
@@ -144,7 +155,8 @@ module _ (k : Shape) (o : ℕ) (old : Option Table) (table : Table) (v s r : Vie
       locked = boxed.work.pass.locks o ∙ (ap (λ (z : View). has_lock o z.log) is_rooted ∙ may.keyed.locked);
       odd = boxed.work.pass.writes o ∙ (ap (λ (z : View). is_writing o z.log) is_rooted ∙ hit o true (is_writing o v.log));
       root = ap root_in (boxed_held r w o boxed) ∙ root_r;
-      boxes = subst (λ (z : Shape). IsDoneWithBoxes z w.log) shape_w (done_none v w gone (made_then v r w made_r made) done_v);
+      settled = made.settled settled_r;
+      few = few_same v w begun_references (few_done k v shape may.boxes);
     }
 
     pub begun_words : held_unboxed o w ≡ held_unboxed o r

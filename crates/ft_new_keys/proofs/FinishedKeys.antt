@@ -1,5 +1,5 @@
 -- That a call may be committed which has put a new key's entry, and what the pass knew before it.
-use Rattle.std.proofs.Common.{◌≡◌, ℕ, suc, ◌+◌, ◌<◌, true, false, true≢false, List, [], Some, sym, ap, ◌∙◌, subst, arith, ne_eqb}
+use Rattle.std.proofs.Common.{◌≡◌, ◌≢◌, ℕ, suc, ◌+◌, ◌<◌, true, false, true≢false, List, [], Some, sym, ap, ◌∙◌, subst, arith, ne_eqb}
 use Rattle.std.specs.Prelude.{◌==◌, nat_lt}
 use Rattle.ft_model.specs.declared.call.Call.{Call}
 use Rattle.ft_model.specs.declared.data.Key.{Key}
@@ -13,6 +13,7 @@ use Rattle.ft_trace.specs.declared.Shape.{Shape}
 use Rattle.ft_trace.specs.declared.View.{View}
 use Rattle.ft_trace.specs.Acts.{has_lock, is_writing, has_emptied, owes, view_after}
 use Rattle.ft_trace.specs.Addresses.{container_count, class_of, slots}
+use Rattle.ft_trace.specs.Boxes.{place_use, use_taken}
 use Rattle.ft_trace.specs.Holds.{held_unboxed, known_state}
 use Rattle.ft_trace.specs.Kinds.{rows, version_at, CarefulAs, ClearAs}
 use Rattle.ft_trace.specs.OddVersions.{Shut}
@@ -20,6 +21,7 @@ use Rattle.ft_trace.specs.Pictures.{root_in, entry_offset, entry_field, Represen
 use Rattle.ft_trace.specs.ContainerStates.{ContainerState, state_at, kind_in, changes, reply_in, kinds_in}
 use Rattle.ft_trace.proofs.Cases.{hit}
 use Rattle.ft_bank.specs.declared.table.Table.{Table}
+use Rattle.ft_bank.specs.SameBoxes.{TakesNoPlace}
 use Rattle.ft_bank.specs.TableNames.{table_id}
 use Rattle.ft_bank.specs.Whole.{OnlyWritten}
 use Rattle.ft_bank.specs.WriteSteps.{MayCommit, MayHave}
@@ -39,6 +41,7 @@ pub record Since (o : ℕ) (v u : View) : Type 0 where
   pub emptied : has_emptied o u.log ≡ false
   pub left : u.left ≡ v.left
   pub owes : owes u.log ≡ owes v.log
+  pub places : TakesNoPlace v u
 
 pub since_start : (o : ℕ) (v s u : View) (f : ℕ) → s ≡ view_after (StartWrite o f) v → OnlyWritten o s u → Since o v u
 since_start o v s u f begun puts = record {
@@ -49,6 +52,7 @@ since_start o v s u f begun puts = record {
   emptied = puts.work.emptied o ∙ (ap (λ (z : View). has_emptied o z.log) begun ∙ hit o false (has_emptied o v.log));
   left = puts.work.left ∙ ap (λ (z : View). z.left) begun;
   owes = puts.work.owes ∙ ap (λ (z : View). owes z.log) begun;
+  places = λ b taken. sym (ap (λ (z : View). place_use b z.log) begun) ∙ puts.made.places b taken;
 }
 
 pub since_root : (o t old : ℕ) (v r u : View) (f : ℕ) → r ≡ view_after (PutRoot o (suc t) old) (view_after (StartWrite o f) v) → OnlyWritten o r u → Since o v u
@@ -60,6 +64,7 @@ since_root o t old v r u f is puts = record {
   emptied = puts.work.emptied o ∙ (ap (λ (z : View). has_emptied o z.log) is ∙ (hit o (suc t == 0) _ ∙ ne_eqb (suc t) 0 (λ e. absurd (omega (arith, e)))));
   left = puts.work.left ∙ ap (λ (z : View). z.left) is;
   owes = puts.work.owes ∙ ap (λ (z : View). owes z.log) is;
+  places = λ b taken. sym (ap (λ (z : View). place_use b z.log) is) ∙ puts.made.places b taken;
 }
 
 module _ (o : ℕ) (v u : View) (since : Since o v u) where
@@ -73,7 +78,7 @@ module _ (o : ℕ) (v u : View) (since : Since o v u) where
     words = has.words;
   }
 
-  module _ (k : Shape) (table : Table) (place : ℕ) (called : Call) (said : Reply) (left : ContainerState) (leaves : Leaves o called said left v) (shape : v.shape ≡ k) (low : o < container_count k) (some : 0 < v.left)
+  module _ (k : Shape) (table : Table) (place : ℕ) (called : Call) (said : Reply) (left : ContainerState) (leaves : Leaves o called said left v) (shape : v.shape ≡ k) (low : o < container_count k) (some : 0 < v.left) (untaken : (b : ℕ) → place_use b v.log ≢ use_taken)
       (takes : (found : StoredWorld) (class : ℕ) → MayHave v found → owes v.log ≡ suc class → takes_in found called ≡ Some class)
       (kind_eq : kind_of (known_state o v).content ≡ kind_in k.starts o) (was : TableUse) (change : Changing k.texts (table_id table) (held_unboxed o u) (record { content = (known_state o v).content; table = was }) place [] left) (root : root_in (held_unboxed o u) ≡ suc (table_id table)) where
     abbrev c : ℕ
@@ -116,6 +121,7 @@ module _ (o : ℕ) (v u : View) (since : Since o v u) where
           takes = λ found class has owed. takes found class (has_since found has) (sym since.owes ∙ owed);
           empties = λ e. absurd (true≢false (sym e ∙ subst (λ (n : ℕ). has_emptied n u.log ≡ false) name since.emptied));
           locks = λ p e. since.locks p ∙ leaves.locks p e;
+          stores = λ found has. ((λ b taken. absurd (untaken b (since.places b taken))), (λ b c taken other. absurd (untaken b (since.places b taken))));
         }
 
     pub key_finishes : MayFinish o table place called said u

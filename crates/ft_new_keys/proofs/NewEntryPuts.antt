@@ -23,7 +23,7 @@ use Rattle.ft_bank.specs.WriteSteps.{IsCareful}
 use Rattle.ft_search.specs.declared.words.TableWords.{TableWords}
 use Rattle.ft_search.specs.TableWords.{KnowsWords, MayMake, MadeAccess}
 use Rattle.ft_search.specs.OneEntryWrites.{WritesEntries, raised_at}
-use Rattle.ft_search.proofs.Puts.{entry_refs, few_done, few_places, keyed_value, keyed_version}
+use Rattle.ft_search.proofs.Puts.{entry_refs, few_places, keyed_value, keyed_version}
 use Rattle.ft_new_keys.specs.Placing.{counted}
 use Rattle.ft_new_keys.specs.Internal.Laying.{IsUnused}
 use Rattle.ft_new_keys.proofs.Laid.{AreCarefulCalls, allows_calls, careful_at}
@@ -49,7 +49,7 @@ pair_opens k o table v slot place shape writes early un =
     careful_at k o (table_id table) at x (held_unboxed o v).table (known_state o v).content v shape early refl refl
     (as_careful kind writes.keyed c (held_unboxed o v).table (known_state o v).content at x (open_careful (slots c) (rows kind c) (held_unboxed o v).table slot place un _))
     (in_time kind c at x (open_odd (slots c) (rows kind c) (held_unboxed o v).table slot place un))
-    (entry_refs v o (table_id table) place 0 x keyed (omega arith) (λ e. absurd (omega (arith, e))) (λ e. absurd (omega (arith, e))) (few_done k v shape writes.boxes))
+    (entry_refs v o (table_id table) place 0 x keyed (omega arith) (λ e. absurd (omega (arith, e))) (λ e. absurd (omega (arith, e))) writes.few)
 
 -- then its value is one that may be put, and stores nothing
 module _ (k : Shape) (o : ℕ) (table : Table) (w : View) (slot place word : ℕ) (x : ContainerWords) (shape : w.shape ≡ k) (keyed : IsKeyed (kind_in k.starts o)) (words : held_unboxed o w ≡ raised_at (table_id table) place x) (un : IsUnused (slots (class_of (table_id table))) (rows (kind_in k.starts o) (class_of (table_id table))) x.table slot place)

@@ -177,6 +177,7 @@ module _ (first_pair : FirstEntriesArePairs) (first_element : FirstEntriesAreEle
       few = few_done k v shape may.boxes;
       enough = λ b. let none = names_none b in omega (arith, none);
       known = λ b none some. absurd (some (names_none b));
+      stored = λ b taken. names_none b;
     };
   }
 

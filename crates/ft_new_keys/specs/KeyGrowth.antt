@@ -22,7 +22,7 @@ use Rattle.ft_trace.specs.declared.Shape.{Shape}
 use Rattle.ft_trace.specs.declared.View.{View}
 use Rattle.ft_trace.specs.Acts.{has_lock, is_writing, owes, stage, used, flight, view_after}
 use Rattle.ft_trace.specs.Addresses.{container_count, class_of}
-use Rattle.ft_trace.specs.Boxes.{references_held, IsDoneWithBoxes}
+use Rattle.ft_trace.specs.Boxes.{named_in_root, references_held, IsDoneWithBoxes}
 use Rattle.ft_trace.specs.FitCalls.{FitsCall}
 use Rattle.ft_trace.specs.Holds.{held_words, held_unboxed, known_state}
 use Rattle.ft_trace.specs.Kinds.{IsKeyed}
@@ -30,13 +30,12 @@ use Rattle.ft_trace.specs.BegunSections.{HasLocksOf}
 use Rattle.ft_trace.specs.Pictures.{root_in, Represents}
 use Rattle.ft_trace.specs.ContainerStates.{state_at, kind_in, changes}
 use Rattle.ft_bank.specs.declared.table.Table.{Table}
-use Rattle.ft_bank.specs.TableNames.{table_id, root_for, IsTableIn}
+use Rattle.ft_bank.specs.TableNames.{table_id, root_for, words_for, IsTableIn}
 use Rattle.ft_bank.specs.SameBoxes.{MovesReferences}
 use Rattle.ft_bank.specs.Whole.{OnlyLoaded, OnlyWritten}
 use Rattle.ft_bank.specs.WriteSteps.{KeepsUnwritten, MayHave}
 use Rattle.ft_table_calls.specs.declared.adding.Added.{Added}
 use Rattle.ft_table_calls.specs.Adding.{IsAdded}
-use Rattle.ft_table_calls.specs.Dropping.{HoldsNamed}
 use Rattle.ft_search.specs.MadeCalls.{IsReplyTo}
 use Rattle.ft_new_keys.specs.Placing.{with_key}
 
@@ -87,11 +86,13 @@ pub record BeginsIn (o : ℕ) (table : Table) (v w : View) : Type 0 where
   pub moves : MovesReferences o (view_after (StartWrite o found) v) rooted
   pub only : OnlyWritten o rooted w
 
--- The pass holds the references of the boxes that a table names which it took out of the root of the container o, if it
--- took one out, and no others. (profile)
+-- how often the table that the pass took out of the root of the container o, if it took one out, names the box
+abbrev pub named_in_old : Shape → ℕ → Option Table → View → ℕ → ℕ
+named_in_old k o old v b = named_in_root b (kind_in k.starts o) (root_for old) (words_for old v)
+
+-- the pass holds the references of the boxes that this table names (profile)
 abbrev pub HoldsOld : Shape → ℕ → Option Table → View → Type 0
-HoldsOld k o None v = (b : ℕ) → references_held k b v.log ≡ 0
-HoldsOld k o (Some t) v = HoldsNamed k o (table_id t) v
+HoldsOld k o old v = (b : ℕ) → named_in_old k o old v b ≤ references_held k b v.log
 
 -- the slot is the first one for the key in a table with these words, after their header, that was never used
 abbrev pub IsFreeFor : List ℕ → Way → ℕ → Key → List ℕ → ℕ → Type 0

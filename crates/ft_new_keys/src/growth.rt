@@ -11,7 +11,7 @@ ghost use Rattle.ft_layout.specs.Words.{FitsKey, FitsStored};
 ghost use Rattle.ft_keys.specs.Ways.{IsTableOf};
 ghost use Rattle.ft_trace.specs.Acts.{stage};
 ghost use Rattle.ft_trace.specs.Addresses.{container_count, class_of};
-ghost use Rattle.ft_trace.specs.Boxes.{references_held};
+ghost use Rattle.ft_trace.specs.Boxes.{references_held, IsSettled};
 ghost use Rattle.ft_trace.specs.Holds.{held_unboxed, known_state, in_hand};
 ghost use Rattle.ft_trace.specs.Kinds.{rows};
 ghost use Rattle.ft_trace.specs.Pictures.{root_in};
@@ -19,16 +19,16 @@ ghost use Rattle.ft_trace.specs.ContainerStates.{kind_in};
 ghost use Rattle.ft_bank.specs.KeyHashes.{IsKeyIn};
 ghost use Rattle.ft_bank.specs.Passes.{shape_of, view, IsPassOf};
 ghost use Rattle.ft_bank.specs.PassSections.{stack_of};
-ghost use Rattle.ft_bank.specs.SameBoxes.{SameMade, SameReferences};
+ghost use Rattle.ft_bank.specs.SameBoxes.{SameReferences, StaysSettled};
 ghost use Rattle.ft_bank.specs.declared.table.Table.{Table};
 ghost use Rattle.ft_bank.specs.TableNames.{table_id, IsTableIn};
 ghost use Rattle.ft_bank.specs.Whole.{OnlyBoxed, OnlyLoaded, Wrote};
-ghost use Rattle.ft_table_calls.specs.Dropping.{AreValuePlaces, SharesBoxes};
+ghost use Rattle.ft_table_calls.specs.Dropping.{AreValuePlaces};
 ghost use Rattle.ft_search.specs.Held.{IsHeldAt, KnowsTable};
 ghost use Rattle.ft_search.specs.Rounds.{kind_by};
 ghost use Rattle.ft_search.specs.OneEntryWrites.{WritesEntries};
 ghost use Rattle.ft_new_keys.specs.Fresh.{IsFilledWith};
-ghost use Rattle.ft_new_keys.specs.KeyGrowth.{AddsKey, BeginsIn, HoldsOld, IsFreeFor, MayGrowKeyed, key_takes, most_of};
+ghost use Rattle.ft_new_keys.specs.KeyGrowth.{AddsKey, BeginsIn, HoldsOld, IsFreeFor, MayGrowKeyed, key_takes, most_of, named_in_old};
 ghost use Rattle.ft_new_keys.specs.Placing.{AreCounts, StoresAs};
 
 use crate::counts::Counts;
@@ -60,19 +60,21 @@ fn entry_values(way: Way, class: u32) -> ValuePlaces
 }
 
 /// Drops the references of the values of the table that a dict or a set had before a write put another root, if it had
-/// one: the pass holds no others.
+/// one: they are among those that the pass holds.
 pub fn drop_old(bank: &Bank, pass: &mut Pass, o: u32, way: Way, old: Option<Table>)
     requires pass { IsPassOf bank.now pass.old }
     requires way { kind_in (shape_of bank.now).starts o ≡ kind_by way }
     requires out { (t : Table) → old ≡ Some t →
         IsTableIn (shape_of bank.now) t × (stage (table_id t) (view pass.old).log ≡ 3) }
-    requires shared { SharesBoxes (view pass.old) }
+    requires settled { IsSettled (view pass.old).log }
     requires held { HoldsOld (shape_of bank.now) o old (view pass.old) }
     ensures pass { IsPassOf bank.now pass.new }
     ensures stack { stack_of pass.new ≡ stack_of pass.old }
     ensures only { OnlyBoxed (view pass.old) (view pass.new) }
-    ensures made { SameMade (view pass.old) (view pass.new) }
-    ensures none { (b : ℕ) → references_held (shape_of bank.now) b (view pass.new).log ≡ 0 }
+    ensures made { StaysSettled (view pass.old) (view pass.new) }
+    ensures references { (b : ℕ) → references_held (shape_of bank.now) b (view pass.new).log
+        + named_in_old (shape_of bank.now) o old (view pass.old) b
+        ≡ references_held (shape_of bank.now) b (view pass.old).log }
 {
     if let Some(table) = old {
         drop_values(bank, pass, o, table, entry_values(way, table.class));
@@ -92,6 +94,7 @@ pub fn begin_in(bank: &Bank, pass: &mut Pass, o: u32, way: Way, old: Option<Tabl
     ensures stack { stack_of pass.new ≡ stack_of pass.old }
     ensures begins { BeginsIn o table (view pass.old) (view pass.new) }
     ensures writes { WritesEntries (shape_of bank.now) o table (view pass.new) }
+    ensures references { SameReferences (view pass.old) (view pass.new) }
     ensures words { held_unboxed o (view pass.new) ≡ record {
       block = slice_set (held_unboxed o (view pass.old)).block 0 (suc (table_id table));
       table = in_hand (table_id table) (view pass.old);

@@ -13,15 +13,16 @@ use Rattle.ft_trace.specs.declared.Shape.{Shape}
 use Rattle.ft_trace.specs.declared.View.{View}
 use Rattle.ft_trace.specs.Acts.{debt, debt_next, is_writing, view_after, seen_writes, shown, stage, stage_next, presence_after_entry}
 use Rattle.ft_trace.specs.Addresses.{container_count}
-use Rattle.ft_trace.specs.Boxes.{references_held}
+use Rattle.ft_trace.specs.Boxes.{place_use, references_held}
 use Rattle.ft_trace.specs.Holds.{held_words, held_unboxed, known_state}
 use Rattle.ft_trace.specs.Pictures.{root_in, Represents}
 use Rattle.ft_trace.specs.ContainerStates.{changes, kind_in, kinds_in}
 use Rattle.ft_trace.proofs.Cases.{hit, miss}
 use Rattle.ft_trace.proofs.Untouched.{untouched_in}
-use Rattle.ft_bank.specs.SameBoxes.{LosesReferences, MovesReferences, named_in_words}
+use Rattle.ft_bank.specs.SameBoxes.{LosesReferences, MovesReferences, SameMade, StaysSettled, named_in_words}
 use Rattle.ft_bank.specs.Whole.{OnlyPut, OnlyWritten, Wrote, write_entry}
 use Rattle.ft_bank.specs.WriteSteps.{Committed, KeepsUnwritten}
+use Rattle.ft_bank.proofs.DoneBoxes.{none_taken, settled_same}
 use Rattle.ft_bank.proofs.KnownAfterWrites.{work_knows}
 
 -- The pass knew v; it made the version of a container odd, put 0 into its root, and dropped references: then it knows d.
@@ -82,6 +83,13 @@ module _ (called : Call) (said : Reply) (number f t g : ℕ) (snap : Snap) (v d 
       let three : references_held done.shape b done.log + names b done ≡ references_held rooted.shape b rooted.log + names b rooted = puts.moves b in
       omega (arith, one, two, three)
 
+  -- the write has stored each box whose place the pass had taken
+  swapped_settles : StaysSettled bare d → SameMade rooted u → StaysSettled v done
+  swapped_settles drops puts = record {
+    settled = λ x. settled_same d.log done.log puts.state puts.local puts.taken puts.places (drops.settled (record { unmade = x.unmade; counted = x.counted; whole = x.whole; given = x.given }));
+    places = λ b taken. absurd (none_taken (place_use b d.log) (sym (puts.uses b) ∙ taken));
+  }
+
   swapped_at : is_writing at v.log ≡ false → old ≢ suc t → seen_writes d ≤ number → 0 < v.left → KeepsUnwritten begun bare → MovesReferences at begun bare → OnlyWritten at bare d → Committed d made called → KeepsUnwritten made rooted → MovesReferences at made rooted → OnlyPut at rooted u → root_in (held_words at u) ≡ suc t → Represents u.shape.texts (held_unboxed at u) (known_state at u) → Wrote called said number v done
   swapped_at quiet new low some keeps moves drops committed kept moved puts root stands =
       let w0 = drops.work in
@@ -127,7 +135,7 @@ module _ (called : Call) (said : Reply) (number f t g : ℕ) (snap : Snap) (v d 
         used = w1.used ∙ hit 0 false true;
         owes = w1.owes;
         tables = w1.tables ∙ w0.tables;
-        made = record { state = λ b. puts.made.state b ∙ drops.made.state b; local = λ b. puts.made.local b ∙ drops.made.local b; taken = λ b. puts.made.taken b ∙ drops.made.taken b; places = λ b. puts.made.places b ∙ drops.made.places b };
+        made = swapped_settles drops.made puts.made;
         loses = swapped_loses moves drops moved puts;
         others = λ p below ne mine still.
             let quiet_p = others_start p ne ∙ still in

@@ -1,6 +1,6 @@
 -- A dict or a set that gets another table in the place of its own: that the roots may be put and the call committed,
 -- and what the words stand for then.
-use Rattle.std.proofs.Common.{◌≡◌, ◌≢◌, ℕ, suc, ◌<◌, ◌≤◌, true, false, true≢false, List, [], ◌∷◌, length, Option, Some, None, refl, sym, ap, ◌∙◌, subst, arith, length-set, get_or-set_same, get_or-set_other}
+use Rattle.std.proofs.Common.{◌≡◌, ◌≢◌, ℕ, suc, ◌+◌, ◌<◌, ◌≤◌, true, false, true≢false, List, [], ◌∷◌, length, Option, Some, None, refl, sym, ap, ◌∙◌, subst, arith, length-set, get_or-set_same, get_or-set_other}
 use Rattle.std.specs.Prelude.{◌==◌, cond, is_some, slice_index, slice_set}
 use Rattle.std.specs.Option.{unwrap_or}
 use Rattle.ft_model.specs.declared.call.Call.{Call}
@@ -17,7 +17,7 @@ use Rattle.ft_trace.specs.declared.Snap.{Snap}
 use Rattle.ft_trace.specs.declared.View.{View}
 use Rattle.ft_trace.specs.Acts.{has_committed, has_lock, is_writing, mem, view_after, owes, seen_writes, stage, stage_next}
 use Rattle.ft_trace.specs.Addresses.{container_count, class_of, size, at, block, cell, IsTableName}
-use Rattle.ft_trace.specs.Boxes.{known_box_word, named_in_root, references_held, IsDoneWithBoxes}
+use Rattle.ft_trace.specs.Boxes.{known_box_word, named_in_root, place_use, references_held, use_taken, IsSettled}
 use Rattle.ft_trace.specs.Holds.{held_words, held_unboxed, hand_unboxed, in_hand, known_state}
 use Rattle.ft_trace.specs.Kinds.{IsKeyed, rows, version_at, SoundAs}
 use Rattle.ft_trace.specs.OddVersions.{Shut}
@@ -31,21 +31,20 @@ use Rattle.ft_trace.proofs.Pieces.{table_same}
 use Rattle.ft_trace.proofs.SetKnown.{FirstEntriesAreElements}
 use Rattle.ft_bank.specs.declared.table.Table.{Table}
 use Rattle.ft_bank.specs.TableNames.{IsTableIn, root_for, table_id}
-use Rattle.ft_bank.specs.SameBoxes.{MovesReferences, SameMade, SameReferences, named_in_words}
+use Rattle.ft_bank.specs.SameBoxes.{MovesReferences, SameReferences, StaysSettled, named_in_words}
 use Rattle.ft_bank.specs.Whole.{OnlyBoxed, OnlyPut, OnlyWritten, Wrote}
 use Rattle.ft_bank.specs.WriteSteps.{Committed, IsShut, KeepsUnwritten, MayCommit, MayHave, MayPutRoot, with_unboxed_root}
 use Rattle.ft_bank.proofs.TableAddresses.{named}
 use Rattle.ft_bank.proofs.DoneBoxes.{none_named}
 use Rattle.ft_bank.proofs.KnownAfterWrites.{boxed_written, work_knows}
 use Rattle.ft_bank.proofs.WordsPut.{taken_words}
-use Rattle.ft_table_calls.specs.Dropping.{SharesBoxes}
-use Rattle.ft_table_calls.proofs.Dropped.{hand_same, holds_named, shares_done}
+use Rattle.ft_table_calls.proofs.Dropped.{dropped_named, hand_same, holds_named}
 use Rattle.ft_table_calls.proofs.PlainTables.{ArePlain, plain_named, plain_reads}
 use Rattle.ft_search.proofs.Calling.{plain_replied}
 use Rattle.ft_search.proofs.Changing.{kind_is, shut_known}
 use Rattle.ft_search.proofs.Puts.{few_done, keyed_value, keyed_version, table_class}
 use Rattle.ft_new_keys.specs.Fresh.{IsFilledWith}
-use Rattle.ft_new_keys.specs.KeyGrowth.{HoldsOld, MayGrowKeyed}
+use Rattle.ft_new_keys.specs.KeyGrowth.{HoldsOld, MayGrowKeyed, named_in_old}
 use Rattle.ft_new_keys.specs.Placing.{counted}
 use Rattle.ft_new_keys.proofs.Keyed.{Heads}
 use Rattle.ft_new_keys.proofs.Placed.{counted_head, kind_shut, use_with}
@@ -91,8 +90,8 @@ pub record Swapping (k : Shape) (o : ℕ) (old : Option Table) (table : Table) (
   pub root_held : held_unboxed o r ≡ with_unboxed_root (held_unboxed o s) o None s
   pub moves : MovesReferences o s r
   pub drops : OnlyBoxed r d
-  pub made : SameMade r d
-  pub none : (b : ℕ) → references_held k b d.log ≡ 0
+  pub made : StaysSettled r d
+  pub dropped : (b : ℕ) → references_held k b d.log + named_in_old k o old r b ≡ references_held k b r.log
 
 -- 0 may be put into the root
 pub may_put_none : (k : Shape) (o : ℕ) (old : Option Table) (table : Table) (v s : View) (f : ℕ) → v.shape ≡ k → ∥ IsReachable v ∥₁ → MayGrowKeyed k o old table v → s ≡ view_after (StartWrite o f) v → MayPutRoot s o None
@@ -108,9 +107,10 @@ may_put_none k o old table v s f shape possible may is =
       spare = λ some_one. may.used;
       early = λ e. hit o false _;
       references = record {
-        few = few_done k (view_after (StartWrite o f) v) shape (λ b. let d = may.boxes b in (d.0, d.1, d.2, d.3));
+        few = few_done k v shape may.boxes;
         enough = λ b. omega arith;
         known = λ b none some_one. absurd (some_one refl);
+        stored = λ b taken. refl;
       };
     })
 
@@ -124,9 +124,6 @@ module _ (heads : Heads) (k : Shape) (o : ℕ) (old : Option Table) (table : Tab
 
   names_old : root_in (held_words o s) ≡ root_for old
   names_old = ap (λ (z : View). root_in (held_words o z)) started ∙ may.keyed.root
-
-  done_started : IsDoneWithBoxes k s.log
-  done_started = subst (λ (z : View). IsDoneWithBoxes k z.log) (sym started) (λ b. let d = may.boxes b in (d.0, d.1, d.2, d.3))
 
   -- no words name a box any longer
   bare_rooted : root_in (held_words o r) ≡ 0
@@ -148,28 +145,48 @@ module _ (heads : Heads) (k : Shape) (o : ℕ) (old : Option Table) (table : Tab
             ∙ (miss 0 (suc (table_id t)) 0 (cond (suc (table_id t) == suc (table_id t)) 3 n) (λ e. absurd (omega (arith, e))) ∙ hit (suc (table_id t)) 3 n)),
       )
 
-  pub old_shared : SharesBoxes r
-  old_shared = shares_done k s r done_started (subst (SameMade s) (sym rooted) (record { state = λ b. refl; local = λ b. refl; taken = λ b. refl; places = λ b. refl }))
+  pub old_settled : IsSettled r.log
+  old_settled =
+      let x = may.boxes.settled in
+      subst (λ (z : View). IsSettled z.log) (sym (rooted ∙ ap (λ (z : View). view_after (PutRoot o 0 (root_in (held_words o z))) z) started))
+      (record { unmade = x.unmade; counted = x.counted; whole = x.whole; given = x.given })
+
+  -- the table that the pass took out of the root
+  module _ (t : Table) (has : old ≡ Some t) where
+    was_root : root_in (held_words o s) ≡ suc (table_id t)
+    was_root = names_old ∙ ap root_for has
+
+    was_hand : in_hand (table_id t) r ≡ (held_words o s).table
+    was_hand =
+        let low = subst (λ (z : Shape). o < container_count z) (sym shape_started) may.keyed.container in
+        let name = subst (λ (z : Shape). IsTableName z (table_id t)) (sym shape_started) (named k t (may.keyed.table_in t has)) in
+        ap (in_hand (table_id t)) rooted ∙ taken_words s o (table_id t) 0 (root_in (held_words o s)) low name was_root
 
   pub old_held : HoldsOld k o old r
   old_held = by old refl
     where
-      by : (q : Option Table) → old ≡ q → HoldsOld k o q r
-      by None is = λ b.
-          let bare_before = none_named b (kind_in s.shape.starts o) (held_words o s) (names_old ∙ ap root_for is) in
+      by : (any : Option Table) → old ≡ any → HoldsOld k o any r
+      by None has = λ b. omega arith
+      by (Some t) has = holds_named k o (table_id t) s r shape_started shape_rooted moves (was_root t has) (was_hand t has) names_none
+
+  -- once its references are dropped the pass holds none
+  pub old_dropped : (d : View) → d.shape ≡ r.shape → ((b : ℕ) → references_held k b d.log + named_in_old k o old r b ≡ references_held k b r.log) → (b : ℕ) → references_held k b d.log ≡ 0
+  old_dropped d same dropped b = by old refl dropped
+    where
+      before : references_held s.shape b s.log ≡ 0
+      before = ap (λ (z : Shape). references_held z b s.log) shape_started ∙ (ap (λ (z : View). references_held k b z.log) started ∙ may.boxes.none b)
+
+      by : (any : Option Table) → old ≡ any → ((n : ℕ) → references_held k n d.log + named_in_old k o any r n ≡ references_held k n r.log) → references_held k b d.log ≡ 0
+      by (Some t) has less =
+          ap (λ (z : Shape). references_held z b d.log) (sym (same ∙ (shape_rooted ∙ shape_started)))
+          ∙ (dropped_named k o (table_id t) s r d shape_started shape_rooted same moves (was_root t has) (was_hand t has) names_none less b ∙ before)
+      by None has less =
+          let bare_before = none_named b (kind_in s.shape.starts o) (held_words o s) (names_old ∙ ap root_for has) in
           let moved = moves b in
           let after = names_none b in
-          let held = (done_started b).0 in
           let now : references_held k b r.log ≡ references_held r.shape b r.log = ap (λ (z : Shape). references_held z b r.log) (sym (shape_rooted ∙ shape_started)) in
-          let was : references_held s.shape b s.log ≡ references_held k b s.log = ap (λ (z : Shape). references_held z b s.log) shape_started in
-          omega (arith, bare_before, moved, after, held, now, was)
-      by (Some t) is =
-          let name : root_in (held_words o s) ≡ suc (table_id t) = names_old ∙ ap root_for is in
-          let low = subst (λ (z : Shape). o < container_count z) (sym shape_started) may.keyed.container in
-          let table_name = subst (λ (z : Shape). IsTableName z (table_id t)) (sym shape_started) (named k t (may.keyed.table_in t is)) in
-          holds_named k o (table_id t) s r shape_started shape_rooted done_started moves name
-          (ap (in_hand (table_id t)) rooted ∙ taken_words s o (table_id t) 0 (root_in (held_words o s)) low table_name name)
-          names_none
+          let all = less b in
+          omega (arith, bare_before, moved, after, before, now, all)
 
 module _ (k : Shape) (o : ℕ) (old : Option Table) (table : Table) (called : Call) (left : Content) (f : ℕ) (v s r d : View) (e : Swapping k o old table called left f v s r d) where
   abbrev t : ℕ
@@ -196,9 +213,13 @@ module _ (k : Shape) (o : ℕ) (old : Option Table) (table : Table) (called : Ca
   locks_then : (p : ℕ) → has_lock p d.log ≡ has_lock p v.log
   locks_then p = e.drops.work.pass.locks p ∙ ap (λ (z : View). has_lock p z.log) both_rooted
 
+  -- the pass holds no references once they are dropped
+  none_held : (n : ℕ) → references_held k n d.log ≡ 0
+  none_held = old_dropped e.heads k o old table f v s r e.shape e.may e.started e.rooted e.root_held e.moves d e.drops.work.pass.shape e.dropped
+
   -- what the pass did since the root was put
   written : OnlyWritten o r d
-  written = boxed_written o r d e.drops e.made (λ b. let none = ap (λ (z : Shape). references_held z b d.log) (shape_then ∙ e.shape) ∙ e.none b in omega (arith, none))
+  written = boxed_written o r d e.drops e.made (λ b. let none = ap (λ (z : Shape). references_held z b d.log) (shape_then ∙ e.shape) ∙ none_held b in omega (arith, none))
 
   -- the drops leave what the words read
   drops_read : held_unboxed o d ≡ held_unboxed o r
@@ -251,6 +272,10 @@ module _ (k : Shape) (o : ℕ) (old : Option Table) (table : Table) (called : Ca
     words = has.words;
   }
 
+  -- the pass has taken no place for a box that no write has stored
+  untaken : (n : ℕ) → place_use n d.log ≢ use_taken
+  untaken n x = e.may.boxes.stored n (ap (λ (z : View). place_use n z.log) (sym both_rooted) ∙ e.made.places n x)
+
   pub swapping_commits : MayCommit d called reply.Done
   swapping_commits =
       let l = e.replaces in
@@ -271,6 +296,7 @@ module _ (k : Shape) (o : ℕ) (old : Option Table) (table : Table) (called : Ca
         clear = λ stored q has names. absurd (omega (arith, none, names));
         takes = λ stored other_class has x. l.takes_is stored (has_before stored has) ∙ (let same : class ≡ other_class = omega (arith, x, owed) in ap (λ (z : ℕ). Some z) same);
         empties = λ x. l.empties;
+        stores = λ stored has. ((λ n x. absurd (untaken n x)), (λ n m x other. absurd (untaken n x)));
       }
 
   -- after the commit
@@ -324,7 +350,7 @@ module _ (k : Shape) (o : ℕ) (old : Option Table) (table : Table) (called : Ca
     names_c n = plain_named n t (kind_in c.shape.starts o) (in_hand t c) plain_c
 
     held_none : (n : ℕ) → references_held c.shape n c.log ≡ 0
-    held_none n = ap (λ (z : Shape). references_held z n c.log) shape_c ∙ (ap (λ (z : View). references_held k n z.log) made ∙ e.none n)
+    held_none n = ap (λ (z : Shape). references_held z n c.log) shape_c ∙ (ap (λ (z : View). references_held k n z.log) made ∙ none_held n)
 
     sound_here : SoundAs (kind_in c.shape.starts o) c.shape.texts class (in_hand t c) (known_state o c).content
     sound_here =
@@ -357,6 +383,7 @@ module _ (k : Shape) (o : ℕ) (old : Option Table) (table : Table) (called : Ca
         few = λ n. let none = held_none n in omega (arith, none);
         enough = λ n. let none = names_c n in omega (arith, none);
         known = λ n none some_one. absurd (some_one (names_c n));
+        stored = λ n taken. names_c n;
       };
     }
 
@@ -426,5 +453,5 @@ module _ (k : Shape) (o : ℕ) (old : Option Table) (table : Table) (called : Ca
             let one = moved n in
             let two = puts.moves n in
             let none_u : references_held u.shape n u.log ≡ 0 = omega (arith, none_c, bare, one, two) in
-            let before : references_held v.shape n v.log ≡ 0 = ap (λ (y : Shape). references_held y n v.log) e.shape ∙ (e.may.boxes n).0 in
+            let before : references_held v.shape n v.log ≡ 0 = ap (λ (y : Shape). references_held y n v.log) e.shape ∙ e.may.boxes.none n in
             ap (λ (y : View). references_held y.shape n y.log) stopped ∙ (none_u ∙ sym before)

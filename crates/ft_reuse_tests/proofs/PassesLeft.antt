@@ -7,7 +7,9 @@ use Rattle.ft_trace.specs.declared.Shape.{Shape}
 use Rattle.ft_trace.specs.declared.View.{View}
 use Rattle.ft_trace.specs.Acts.{has_lock, stage, announces, view_after}
 use Rattle.ft_trace.specs.Traces.{IsFree}
-use Rattle.ft_bank.specs.Whole.{OnlyLoaded}
+use Rattle.ft_trace.specs.Boxes.{HasMergedBoxes, IsSettled}
+use Rattle.ft_bank.specs.SameBoxes.{SameReferences, TakesNoPlace}
+use Rattle.ft_bank.specs.Whole.{OnlyBoxed, OnlyLoaded}
 use Rattle.ft_bank.proofs.DoneBoxes.{done_same}
 use Rattle.ft_section.specs.declared.answers.Objects.{Objects}
 use Rattle.ft_section.specs.declared.answers.Step.{Step}
@@ -23,18 +25,25 @@ use Rattle.ft_table_calls.specs.Adding.{Retires, IsAdded}
 use Rattle.ft_table_calls.specs.TriesUnderLocks.{ComesTo, IsTry, UnderLocks}
 use Rattle.ft_list.specs.ListGrowth.{AddsItems}
 
--- a pass that has no lock and then goes offline and collects may be taken in
-pub left_is_free : (v w : View) (freed : ℕ) → ((o : ℕ) → has_lock o v.log ≡ false) → IsStill v → Collected (view_after (Announce v.number 0) v) w freed → announces w.log ≡ 0 → IsFree w
-left_is_free v w freed none still x offline = (
-  λ o. x.keeps.held.locks o ∙ none o,
+-- a pass that has no lock, merges its boxes, and then goes offline and collects may be taken in
+pub left_is_free : (u v w : View) (freed : ℕ) → ((o : ℕ) → has_lock o u.log ≡ false) → IsStill u → OnlyBoxed u v → SameReferences u v → TakesNoPlace u v → IsSettled v.log → HasMergedBoxes v.log → Collected (view_after (Announce v.number 0) v) w freed → announces w.log ≡ 0 → IsFree w
+left_is_free u v w freed none still boxed references places settled merged x offline = (
+  λ o. x.keeps.held.locks o ∙ (boxed.work.pass.locks o ∙ none o),
   λ t.
-      let goes : StaysOrGoes (view_after (Announce v.number 0) v) w t = subst (λ (u : View). StaysOrGoes (view_after (Announce v.number 0) v) u t) (sym x.did) (given_or_kept x.acts x.numbers (view_after (Announce v.number 0) v) t x.givings) in
-      ⊎_elim (λ (same : stage t w.log ≡ stage t v.log). ⊎_elim (λ (z : stage t v.log ≡ 0). inl (same ∙ z)) (λ (z : stage t v.log ≡ 4). inr (same ∙ z)) (still.hands t)) (λ (gone : stage t w.log ≡ 0). inl gone) goes,
-  x.keeps.held.used ∙ still.used,
+      let goes : StaysOrGoes (view_after (Announce v.number 0) v) w t = subst (λ (z : View). StaysOrGoes (view_after (Announce v.number 0) v) z t) (sym x.did) (given_or_kept x.acts x.numbers (view_after (Announce v.number 0) v) t x.givings) in
+      let was : stage t v.log ≡ stage t u.log = boxed.work.hands t in
+      ⊎_elim (λ (same : stage t w.log ≡ stage t v.log). ⊎_elim (λ (z : stage t u.log ≡ 0). inl (same ∙ (was ∙ z))) (λ (z : stage t u.log ≡ 4). inr (same ∙ (was ∙ z))) (still.hands t)) (λ (gone : stage t w.log ≡ 0). inl gone) goes,
+  x.keeps.held.used ∙ (boxed.work.used ∙ still.used),
   x.idle,
-  x.owes still.owes,
+  x.owes (boxed.work.owes ∙ still.owes),
   offline,
-  done_same (view_after (Announce v.number 0) v) w x.keeps.boxes still.boxes,
+  done_same (view_after (Announce v.number 0) v) w x.keeps.boxes
+      (record {
+        settled = record { unmade = settled.unmade; counted = settled.counted; whole = settled.whole; given = settled.given };
+        none = λ b. references b ∙ still.boxes.none b;
+        stored = λ b taken. still.boxes.stored b (places b taken);
+      }),
+  λ b own. merged b (sym (x.keeps.boxes.made.state b) ∙ own),
 )
 
 -- ---- a call keeps the number of the next pass

@@ -9,11 +9,12 @@ ghost use Rattle.ft_section.specs.Ready.{MayTry};
 use crate::banks::{fill_list, small};
 use ft_bank::{Bank, Pass, Took};
 use ft_bank_tests::bank_of_two;
+use ft_boxes::merge_all;
 use ft_qsbr::{collect, enter, leave, quiesce, take};
 use ft_section::{drop_all, new_passes_are_ready};
 use std::test::Fail;
 
-/// The pass goes offline, free of sections and locks, so that another may take it in.
+/// The pass goes offline, free of sections and locks and with its boxes merged, so that another may take it in.
 fn finish(bank: &Bank, pass: &mut Pass, l: u32)
     requires may { MayTry bank.now pass.old (One l) }
     ensures pass { IsPassOf bank.now pass.new }
@@ -23,6 +24,7 @@ fn finish(bank: &Bank, pass: &mut Pass, l: u32)
 {
     let _ = l;
     drop_all(bank, pass);
+    merge_all(bank, pass);
     leave(bank, pass);
 }
 

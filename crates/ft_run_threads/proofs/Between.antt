@@ -15,6 +15,7 @@ use Rattle.ft_history.proofs.HistoryPlaces.{take_next}
 use Rattle.ft_trace.specs.declared.Presence.TheVariants as presence
 use Rattle.ft_trace.specs.Acts.{announces, presence_of}
 use Rattle.ft_trace.specs.OwnCursors.{plain_entry}
+use Rattle.ft_trace.specs.Boxes.{HasMergedBoxes}
 use Rattle.ft_bank.specs.Passes.{shape_of, view}
 use Rattle.ft_bank.specs.PassSections.{stack_of}
 use Rattle.ft_bank.specs.declared.sections.OpenSection.{OpenSection}
@@ -164,14 +165,14 @@ no_sections [] none = refl
 no_sections (x ∷ l) none = absurd (omega (arith, none))
 
 pub worked : (e : Engine) (script : ScriptParts) (i : ℕ) (calls : List Call) (w x : Worker) → calls ≡ calls_of script i → fold step_depth 0 calls ≡ 0 → IsBetween e i calls (length calls) w → SameCallerWork w.caller x.caller → IsCallerOf e x.caller → x.entries ≡ w.entries
-    → ((mine : List NamedEntry) → WasAnswered w.caller mine → WasAnswered x.caller mine) → announces (view (pass_of x.caller)).log ≡ 0 → presence_of (view (pass_of x.caller)).log ≡ presence.Over → HasWorked e script i x
-worked e script i calls w x are level is same caller rows kept offline over =
+    → ((mine : List NamedEntry) → WasAnswered w.caller mine → WasAnswered x.caller mine) → announces (view (pass_of x.caller)).log ≡ 0 → HasMergedBoxes (view (pass_of x.caller)).log → presence_of (view (pass_of x.caller)).log ≡ presence.Over → HasWorked e script i x
+worked e script i calls w x are level is same caller rows kept offline merged over =
     let now = visited e i calls (length calls) w x is same caller rows kept in
     let made : map (λ (y : NamedEntry). y.call) x.entries.items ≡ calls = now.made ∙ take_all (length calls) calls (omega arith) in
     let depth : length (stack_of (pass_of x.caller)).sections ≡ 0 = depth_unanswered x.caller x.entries.items (unanswered x now.idle) now.kept ∙ (ap (fold step_depth 0) made ∙ level) in
     record {
       member = now.member;
-      done = λ done. record { idle = now.idle; sections = no_sections (stack_of (pass_of x.caller)).sections depth; offline = offline };
+      done = λ done. record { idle = now.idle; sections = no_sections (stack_of (pass_of x.caller)).sections depth; offline = offline; merged = merged };
       kept = λ done. now.kept;
       made = λ done. made ∙ are;
       online = λ done. subst HasBeenOnline (sym over) tt;

@@ -16,7 +16,7 @@ use Rattle.ft_engine.proofs.Callers.{some_number}
 use Rattle.ft_run_threads.specs.Workers.{HasNoted}
 
 pub same_work : (c : Caller) → SameCallerWork c c
-same_work c = record { number = refl; next = refl; parts = refl; entries = refl; taken = refl; sections = refl; cursors = refl; calls = refl; made = refl; flight = refl; seen = le_refl _ }
+same_work c = record { number = refl; next = refl; parts = refl; entries = refl; taken = refl; sections = refl; cursors = refl; calls = refl; made = refl; flight = refl; seen = le_refl _; merged = λ merged. merged }
 
 work_then : (b c d : Caller) → SameCallerWork b c → SameCallerWork c d → SameCallerWork b d
 work_then b c d x y = record {
@@ -31,6 +31,7 @@ work_then b c d x y = record {
   made = y.made ∙ x.made;
   flight = y.flight ∙ x.flight;
   seen = le_trans x.seen y.seen;
+  merged = λ merged. y.merged (x.merged merged);
 }
 
 pub none_noted : (e : Engine) (c : Caller) → IsCallerOf e c → HasNoted e c c

@@ -24,6 +24,7 @@ use Rattle.ft_trace.specs.declared.Entry.{Entry as PassEntry}
 use Rattle.ft_trace.specs.declared.Shape.{Shape}
 use Rattle.ft_trace.specs.Acts.{announces, told_in, presence_of}
 use Rattle.ft_trace.specs.Owners.{found_owners, had_locks}
+use Rattle.ft_trace.specs.Boxes.{HasMergedBoxes}
 use Rattle.ft_bank.specs.Passes.{view}
 use Rattle.ft_bank.specs.PassSections.{Stack, stack_of}
 use Rattle.ft_bank_history.specs.Numbering.{HaveNamedEntries}
@@ -81,17 +82,17 @@ first_taken e script w is done =
 
 -- the next one, after the first caller has joined it
 pub next_taken : (e : Engine) (script : ScriptParts) (c d : Caller) (w : Worker) (lists : List (List Entry)) → HasTakenIn e script c lists → HasWorked e script (length lists) w → IsTrue w.done
-    → IsCallerOf e d → thread_of d ≡ thread_of c → IsIdle d → announces (view (pass_of d)).log ≡ announces (view (pass_of c)).log → stack_of (pass_of d) ≡ stack_of (pass_of c)
+    → IsCallerOf e d → thread_of d ≡ thread_of c → IsIdle d → announces (view (pass_of d)).log ≡ announces (view (pass_of c)).log → (HasMergedBoxes (view (pass_of c)).log → HasMergedBoxes (view (pass_of d)).log) → stack_of (pass_of d) ≡ stack_of (pass_of c)
     → (view (pass_of d)).parts ≡ (view (pass_of c)).parts + (view (pass_of w.caller)).parts
     → ((mine theirs : List (List Entry)) → WereAnswered c mine → WereAnswered w.caller theirs → thread_of w.caller ≡ thread_of c + length mine → WereAnswered d (mine ++ theirs))
     → (WereOnline c → WereOnline w.caller → thread_of w.caller ≡ suc (thread_of c + length (taken_of c)) → WereOnline d) → HasTakenIn e script d (lists ++ w.entries.items ∷ [])
-next_taken e script c d w lists old is done caller thread idle announced sections parts kept online =
+next_taken e script c d w lists old is done caller thread idle announced merged sections parts kept online =
     let both = old.parts in
     let one = is.member.parts in
     let number : thread_of w.caller ≡ thread_of c + length lists = let t = is.member.thread in let first = old.thread in omega (arith, t, first) in
     record {
       caller = caller;
-      done = record { idle = idle; sections = ap (λ (s : Stack). s.sections) sections ∙ old.done.sections; offline = announced ∙ old.done.offline };
+      done = record { idle = idle; sections = ap (λ (s : Stack). s.sections) sections ∙ old.done.sections; offline = announced ∙ old.done.offline; merged = merged old.done.merged };
       thread = thread ∙ old.thread;
       parts = let more : length (lists ++ w.entries.items ∷ []) ≡ length lists + 1 = length_push lists w.entries.items in omega (arith, parts, both, one, more);
       kept = kept lists (w.entries.items ∷ []) old.kept (own_kept w (is.kept done) is.member.taken) number;
@@ -107,7 +108,7 @@ still_taken e script c d lists old caller before kept online =
     let same = before.same in
     record {
       caller = caller;
-      done = record { idle = same.flight ∙ old.done.idle; sections = ap (λ (s : Stack). s.sections) same.sections ∙ old.done.sections; offline = before.announced ∙ old.done.offline };
+      done = record { idle = same.flight ∙ old.done.idle; sections = ap (λ (s : Stack). s.sections) same.sections ∙ old.done.sections; offline = before.announced ∙ old.done.offline; merged = same.merged old.done.merged };
       thread = ap (λ (n : ℕ). n - 1) same.number ∙ old.thread;
       parts = same.parts ∙ old.parts;
       kept = kept old.kept;

@@ -6,6 +6,7 @@ use Rattle.ft_model.specs.declared.entry.Entry.{Entry}
 use Rattle.ft_model.specs.declared.script.ScriptParts.{ScriptParts}
 use Rattle.ft_model.specs.Histories.{calls_of}
 use Rattle.ft_model.specs.Scripts.{IsScript}
+use Rattle.ft_trace.specs.Boxes.{HasMergedBoxes}
 use Rattle.ft_trace.specs.declared.View.{View}
 use Rattle.ft_trace.specs.Acts.{announces}
 use Rattle.ft_bank.specs.Passes.{view}
@@ -41,7 +42,7 @@ end_worked e script i c s rule is all =
     let depth : length (stack_of (pass_of c)).sections ≡ 0 = depth_unanswered c mine unanswered is.kept ∙ (ap (fold step_depth 0) made ∙ ends_level script i rule) in
     record {
       member = is.member;
-      done = λ _. record { idle = idle; sections = no_sections (stack_of (pass_of c)).sections depth; offline = (is.done all).1 };
+      done = λ _. record { idle = idle; sections = no_sections (stack_of (pass_of c)).sections depth; offline = (is.done all).1; merged = (is.done all).3 };
       kept = λ _. is.kept;
       made = λ _. made;
       online = λ _. (is.done all).2;
@@ -81,19 +82,20 @@ end_rest e script i s rule is all =
       idle = is.rests.flight ∙ done.idle;
       sections = ap (λ (z : Stack). z.sections) is.rests.sections ∙ done.sections;
       offline = ap (λ (z : View). announces z.log) is.rests.pass ∙ done.offline;
+      merged = subst (λ (z : View). HasMergedBoxes z.log) (sym is.rests.pass) (is.between.done all).3;
     }
 
 pub end_next : (e : Engine) (script : ScriptParts) (c : Caller) (lists : List (List Entry)) (s : Seat) → HasTakenIn e script c lists → IsSeatOf e script (length lists) s → (rests_in s.caller).next ≡ 0
 end_next e script c lists s taken is = ap (λ (z : View). z.next) is.rests.pass ∙ last_next e script c is.caller lists taken is.between.member
 
 pub end_taken : (e : Engine) (script : ScriptParts) (c d : Caller) (s : Seat) (lists : List (List Entry)) → IsScript script → HasTakenIn e script c lists → IsSeatOf e script (length lists) s → length (calls_of script (length lists)) ≤ length s.entries.items
-    → IsCallerOf e d → thread_of d ≡ thread_of c → IsIdle d → announces (view (pass_of d)).log ≡ announces (view (pass_of c)).log → stack_of (pass_of d) ≡ stack_of (pass_of c)
+    → IsCallerOf e d → thread_of d ≡ thread_of c → IsIdle d → announces (view (pass_of d)).log ≡ announces (view (pass_of c)).log → (HasMergedBoxes (view (pass_of c)).log → HasMergedBoxes (view (pass_of d)).log) → stack_of (pass_of d) ≡ stack_of (pass_of c)
     → (view (pass_of d)).parts ≡ (view (pass_of c)).parts + (rests_in s.caller).parts
     → ((mine theirs : List (List Entry)) (w : Caller) → RestsAs w s.caller → WereAnswered c mine → WereAnswered w theirs → thread_of w ≡ thread_of c + length mine → WereAnswered d (mine ++ theirs))
     → ((w : Caller) → RestsAs w s.caller → WereOnline c → WereOnline w → thread_of w ≡ suc (thread_of c + length (taken_of c)) → WereOnline d) → HasTakenIn e script d (lists ++ s.entries.items ∷ [])
-end_taken e script c d s lists rule taken is all caller thread idle announced sections parts kept online =
+end_taken e script c d s lists rule taken is all caller thread idle announced merged sections parts kept online =
     let w = is.caller in
-    next_taken e script c d (worker_of w s) lists taken (end_worked e script (length lists) w s rule is.between all) refl caller thread idle announced sections
+    next_taken e script c d (worker_of w s) lists taken (end_worked e script (length lists) w s rule is.between all) refl caller thread idle announced merged sections
     (parts ∙ ap (λ (z : View). (view (pass_of c)).parts + z.parts) is.rests.pass)
     (λ mine theirs. kept mine theirs w is.rests)
     (online w is.rests)

@@ -37,6 +37,8 @@ use Rattle.ft_turn_laws.proofs.BeforeTurns.{fresh_nobody, new_in_step, same_owne
 use Rattle.ft_run_threads.specs.Workers.{IsBankFor}
 use Rattle.ft_run_threads.proofs.Between.{visited_member}
 use Rattle.ft_run_threads.proofs.WholeLists.{max_some}
+use Rattle.ft_trace.specs.Boxes.{HasMergedBoxes}
+use Rattle.ft_bank.proofs.DoneBoxes.{merged_at_first}
 use Rattle.ft_run_turns.specs.declared.seats.Seat.{Seat}
 use Rattle.ft_run_turns.specs.SeatedThreads.{AreOnlineAtStart}
 use Rattle.ft_run_turns.specs.Internal.CallerSeats.{AreNewFrom, AreNewSeats, AreSeats, HaveTurned, IsBetweenTurns, IsGiver, IsNewCaller, IsNewRest, IsNewSeat, IsSeatOf, NobodyOwns, seat_entries, entries_made, standing_at, standing_in, standings_of}
@@ -55,6 +57,7 @@ fresh_new e i c is =
       sections = ap (λ (s : Standing). s.stack) (fresh_nobody e most_cursors i c is);
       offline = ap (λ (log : List Act). announces log) is.log;
       never = ap presence_of is.log;
+      merged = subst HasMergedBoxes (sym is.log) merged_at_first;
     }
 
 pub new_as : (e : Engine) (i : ℕ) (c d : Caller) → IsNewCaller e i c → IsAsBefore c d → IsCallerOf e d → IsNewCaller e i d
@@ -67,6 +70,7 @@ new_as e i c d is before caller =
       sections = before.same.sections ∙ is.sections;
       offline = before.announced ∙ is.offline;
       never = before.presence ∙ is.never;
+      merged = before.same.merged is.merged;
     }
 
 -- it goes online
@@ -95,7 +99,7 @@ idle_between e script i c is none =
       next = λ called at. subst (λ (f : Flight). AllowsCall f called) (sym is.idle) tt;
       idle = λ named index at. is.idle;
       online = λ low. absurd (none low);
-      done = λ all. (is.idle, is.offline, subst HasBeenOnline (sym is.never) tt);
+      done = λ all. (is.idle, is.offline, subst HasBeenOnline (sym is.never) tt, is.merged);
     }
 
 -- ---- nobody owns a lock

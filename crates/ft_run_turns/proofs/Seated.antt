@@ -12,6 +12,7 @@ use Rattle.ft_model.specs.declared.script.ScriptParts.{ScriptParts}
 use Rattle.ft_model.specs.Histories.{calls_of}
 use Rattle.ft_model.specs.Limits.{most_cursors}
 use Rattle.ft_history.proofs.HistoryPlaces.{take_next}
+use Rattle.ft_trace.specs.Boxes.{HasMergedBoxes}
 use Rattle.ft_trace.specs.declared.View.{View}
 use Rattle.ft_trace.specs.declared.Presence.TheVariants as presence
 use Rattle.ft_trace.specs.Acts.{announces, seen_writes, presence_of}
@@ -62,7 +63,7 @@ woken_between e script i c d mine is before caller =
       next = λ called at. subst (λ (f : Flight). AllowsCall f called) (sym before.same.flight) (is.next called at);
       idle = λ named index at. before.same.flight ∙ is.idle named index at;
       online = λ low. let on = is.online low in (subst (λ n. 0 < n) (sym before.announced) on.0, before.presence ∙ on.1);
-      done = λ all. let end = is.done all in (before.same.flight ∙ end.0, before.announced ∙ end.1, subst HasBeenOnline (sym before.presence) end.2);
+      done = λ all. let end = is.done all in (before.same.flight ∙ end.0, before.announced ∙ end.1, subst HasBeenOnline (sym before.presence) end.2, before.same.merged end.3);
     }
 
 -- no more calls were made than there are
@@ -144,8 +145,8 @@ more_between e script i d after is more =
 
 -- it has gone offline after its last one
 pub left_between : (e : Engine) (script : ScriptParts) (i : ℕ) (c d : Caller) (after : List Entry) → IsAfterTry e script i c after → length (calls_of script i) ≤ length after → SameCallerWork c d → IsCallerOf e d
-    → ((mine : List Entry) → WasAnswered c mine → WasAnswered d mine) → announces (view (pass_of d)).log ≡ 0 → (IsStillOnline c → presence_of (view (pass_of d)).log ≡ presence.Over) → IsBetweenTurns e script i d after
-left_between e script i c d after is all same caller kept offline over =
+    → ((mine : List Entry) → WasAnswered c mine → WasAnswered d mine) → announces (view (pass_of d)).log ≡ 0 → HasMergedBoxes (view (pass_of d)).log → (IsStillOnline c → presence_of (view (pass_of d)).log ≡ presence.Over) → IsBetweenTurns e script i d after
+left_between e script i c d after is all same caller kept offline merged over =
     record {
       member = visited_member e i c d is.member same caller;
       cursors = ap length same.cursors ∙ is.cursors;
@@ -154,7 +155,7 @@ left_between e script i c d after is all same caller kept offline over =
       next = λ called at. subst (λ (f : Flight). AllowsCall f called) (sym (same.flight ∙ is.idle all)) tt;
       idle = λ named index at. same.flight ∙ is.idle all;
       online = λ low. absurd (omega (arith, all, low));
-      done = λ _. (same.flight ∙ is.idle all, offline, subst HasBeenOnline (sym (over is.online.1)) tt);
+      done = λ _. (same.flight ∙ is.idle all, offline, subst HasBeenOnline (sym (over is.online.1)) tt, merged);
     }
 
 -- ---- a turn
@@ -201,10 +202,10 @@ module _ (e : Engine) (script : ScriptParts) (i : ℕ) (c d : Caller) (mine afte
       more_between e script i d after (after_it true has) (not_last (length mine) (length (calls_of script i)) (length after) low longer more)
 
   pub leaves_between : HasTried e called c mine d after true → length mine + 1 ≡ length (calls_of script i) → (x : Caller) → SameCallerWork d x → IsCallerOf e x → ((own : List Entry) → WasAnswered d own → WasAnswered x own)
-      → announces (view (pass_of x)).log ≡ 0 → (IsStillOnline d → presence_of (view (pass_of x)).log ≡ presence.Over) → IsBetweenTurns e script i x after
-  leaves_between has last x same caller kept offline over =
+      → announces (view (pass_of x)).log ≡ 0 → HasMergedBoxes (view (pass_of x)).log → (IsStillOnline d → presence_of (view (pass_of x)).log ≡ presence.Over) → IsBetweenTurns e script i x after
+  leaves_between has last x same caller kept offline merged over =
       let longer = count_ends has in
-      left_between e script i d x after (after_it true has) (omega (arith, last, longer)) same caller kept offline over
+      left_between e script i d x after (after_it true has) (omega (arith, last, longer)) same caller kept offline merged over
 
 -- after an `await` the caller is in no call
 module _ (e : Engine) (script : ScriptParts) (i : ℕ) (c d : Caller) (mine after : List Entry) (named index : ℕ) (is : IsBetweenTurns e script i c mine) (at : slice_get (calls_of script i) (length mine) ≡ Some (call.Await named index)) (has : HasLearned e (call.Await named index) c mine d after) where
@@ -237,10 +238,10 @@ module _ (e : Engine) (script : ScriptParts) (i : ℕ) (c d : Caller) (mine afte
       more_between e script i d after after_learned (not_last (length mine) (length (calls_of script i)) (length after) low count_learned more)
 
   pub learned_leaves : length mine + 1 ≡ length (calls_of script i) → (x : Caller) → SameCallerWork d x → IsCallerOf e x → ((own : List Entry) → WasAnswered d own → WasAnswered x own)
-      → announces (view (pass_of x)).log ≡ 0 → (IsStillOnline d → presence_of (view (pass_of x)).log ≡ presence.Over) → IsBetweenTurns e script i x after
-  learned_leaves last x same caller kept offline over =
+      → announces (view (pass_of x)).log ≡ 0 → HasMergedBoxes (view (pass_of x)).log → (IsStillOnline d → presence_of (view (pass_of x)).log ≡ presence.Over) → IsBetweenTurns e script i x after
+  learned_leaves last x same caller kept offline merged over =
       let longer = count_learned in
-      left_between e script i d x after after_learned (omega (arith, last, longer)) same caller kept offline over
+      left_between e script i d x after after_learned (omega (arith, last, longer)) same caller kept offline merged over
 
 pub for_bank : (e : Engine) (script : ScriptParts) → IsBankFor script (shape_of (bank_of e)) → 0 < length script.threads → IsFor script (shape_of (bank_of e))
 for_bank e script bank some = record { starts = bank.starts; tables = bank.tables; heap = bank.heap; passes = bank.passes ∙ max_some (length script.threads) (λ none. omega (arith, some, none)) }

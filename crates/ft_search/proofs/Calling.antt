@@ -29,8 +29,8 @@ use Rattle.ft_bank.specs.PassSections.{stack_of}
 use Rattle.ft_bank.specs.Whole.{OnlyLoaded, Wrote, write_entry, hand_after, debt_after}
 use Rattle.ft_bank.specs.WriteSteps.{MayHave}
 use Rattle.ft_bank.specs.SameBoxes.{SameReferences, named_in_words}
-use Rattle.ft_bank.proofs.BoxedSteps.{boxes_same, made_then}
-use Rattle.ft_bank.proofs.DoneBoxes.{done_as}
+use Rattle.ft_bank.proofs.BoxedSteps.{boxes_same}
+use Rattle.ft_bank.proofs.DoneBoxes.{done_stays, settled_then, stays_settled_same}
 use Rattle.ft_bank.proofs.LastLoads.{last_older}
 use Rattle.ft_bank.proofs.KnownAfterWrites.{loaded_held, loaded_then, work_knows, pass_then, same_work}
 use Rattle.ft_section.specs.declared.answers.Stamp.{Stamp}
@@ -88,7 +88,7 @@ module _ (v u : View) (l : OnlyLoaded v u) where
           used = x.used;
           owes = x.owes;
           tables = x.tables ∙ l.work.tables;
-          made = made_then v u w l.boxes.made x.made;
+          made = settled_then v u w (stays_settled_same v u l.boxes.made) x.made;
           loses = λ b. subst (λ (m : ℕ). references_held w.shape b w.log + named_in_words b (kind_in w.shape.starts o) (held_words o w) ≤ m) (λ d. l.boxes.references b d + named_in_words b (kind_in (s d).starts o) (h d)) (x.loses b);
           others = λ p low ne mine quiet.
               let e = x.others p (subst (λ (k : Shape). p < container_count k) (sym s) low) ne (l.work.pass.locks p ∙ mine) (l.work.pass.writes p ∙ quiet) in
@@ -164,7 +164,7 @@ wrote_still called said n v w s x keeps =
       used = x.used;
       owes = x.owes;
       flight = x.pass.flight ∙ s.flight;
-      boxes = done_as v w keeps.references x.made s.boxes;
+      boxes = done_stays v w x.made (λ b. keeps.references b ∙ s.boxes.none b) s.boxes;
       stands = λ p low has.
           let shape = x.pass.shape in
           let low' : p < container_count v.shape = subst (λ (k : Shape). p < container_count k) shape low in

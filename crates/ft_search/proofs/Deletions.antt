@@ -53,7 +53,7 @@ use Rattle.ft_bank.proofs.KnownAfterWrites.{loaded_put, put_then, put_written, w
 use Rattle.ft_search.specs.OneEntryWrites.{HasTable, IsLiveEntry, MayWriteEntries, WritesEntries, deletion, raised_at, without_key}
 use Rattle.ft_search.proofs.Changing.{Changing, with_count, kind_is, shut_known, put_at, live_item, table_version_put}
 use Rattle.ft_search.proofs.Laws.{DictLaws, SetLaws}
-use Rattle.ft_search.proofs.Puts.{few_done, keyed_careful, keyed_value, keyed_version, table_class, writes_on}
+use Rattle.ft_search.proofs.Puts.{keyed_careful, keyed_value, keyed_version, table_class, writes_on}
 
 -- ---- what dicts and sets have in common
 
@@ -344,7 +344,7 @@ module _ (k : Shape) (o : ℕ) (table : Table) (place : ℕ) (key : Key) (v w1 w
   pub opens : IsCareful w2 o pt (entry_offset pn place 0) (entry_field pn (held_unboxed o w2).table place 0 + 1)
   opens =
       subst (λ (z : ContainerWords). IsCareful w2 o pt (entry_offset pn place 0) (entry_field pn z.table place 0 + 1)) (sym counted_words)
-      (put_at k o pt (entry_offset pn place 0) (entry_field pn (held_unboxed o v).table place 0 + 1) false counted (known_state o v).content w2 (counted_only.work.pass.shape ∙ shape) (counted_only.work.committed o ∙ early) counted_words (ap (λ (z : ContainerState). z.content) (work_knows v w2 o counted_only.work)) (few_done k w2 (counted_only.work.pass.shape ∙ shape) counted_writes.boxes) may.1.0)
+      (put_at k o pt (entry_offset pn place 0) (entry_field pn (held_unboxed o v).table place 0 + 1) false counted (known_state o v).content w2 (counted_only.work.pass.shape ∙ shape) (counted_only.work.committed o ∙ early) counted_words (ap (λ (z : ContainerState). z.content) (work_knows v w2 o counted_only.work)) counted_writes.few may.1.0)
 
   module _ (w3 : View) (only3 : OnlyPut o w2 w3) (writes3 : WritesEntries k o table w3) (held3 : held_unboxed o w3 ≡ raised_at pt place (held_unboxed o w2)) (gone : ℕ) (is_gone : gone ≡ gone_kind key) where
     abbrev opened' : ContainerWords
@@ -359,7 +359,7 @@ module _ (k : Shape) (o : ℕ) (table : Table) (place : ℕ) (key : Key) (v w1 w
     pub dies : IsCareful w3 o pt (entry_offset pn place 2) gone
     dies =
         subst (λ (z : ℕ). IsCareful w3 o pt (entry_offset pn place 2) z) (sym is_gone)
-        (put_at k o pt (entry_offset pn place 2) (gone_kind key) false opened' (known_state o v).content w3 (opened_only.work.pass.shape ∙ shape) (opened_only.work.committed o ∙ early) opened_words (ap (λ (z : ContainerState). z.content) (work_knows v w3 o opened_only.work)) (few_done k w3 (opened_only.work.pass.shape ∙ shape) writes3.boxes) may.1.1.0)
+        (put_at k o pt (entry_offset pn place 2) (gone_kind key) false opened' (known_state o v).content w3 (opened_only.work.pass.shape ∙ shape) (opened_only.work.committed o ∙ early) opened_words (ap (λ (z : ContainerState). z.content) (work_knows v w3 o opened_only.work)) writes3.few may.1.1.0)
 
     -- the value put in place, where it stood in a box
     pub deleted_only : (w4 w5 : View) → OnlyPut o w3 w4 → OnlyWritten o w4 w5 → OnlyWritten o v w5

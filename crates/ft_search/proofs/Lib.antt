@@ -14,6 +14,7 @@ pub mod Deletions
 pub mod Puts
 pub mod Boxing
 pub mod Unboxing
+pub mod Owning
 pub mod Overs
 pub mod ValueLoads
 pub mod SearchedReads

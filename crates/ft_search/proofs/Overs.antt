@@ -1,15 +1,14 @@
 -- A put over a value: what each of its steps leaves.
-use Rattle.std.proofs.Common.{◌≡◌, ◌≢◌, ℕ, suc, ◌+◌, ◌%◌, ◌^◌, ◌<◌, eqb, cond, set, List, length, refl, sym, ap, ◌∙◌, subst, arith, get_or-set_same, get_or-set_other}
+use Rattle.std.proofs.Common.{◌≡◌, ◌≢◌, ℕ, suc, ◌+◌, ◌%◌, ◌^◌, ◌<◌, ◌≤◌, eqb, cond, set, List, length, length-set, refl, sym, ap, ◌∙◌, subst, arith, get_or-set_same, get_or-set_other}
 use Rattle.std.specs.Prelude.{slice_index}
 use mathlib.Core.Logic.{dite}
 use native.Mathlib.Decide.{ℕ_discrete}
-use Rattle.ft_trace.specs.declared.Act.TheVariants.{DropShared, GivePlace}
 use Rattle.ft_trace.specs.declared.Shape.{Shape}
 use Rattle.ft_trace.specs.declared.View.{View}
 use Rattle.ft_model.specs.declared.script.Kind.{Kind}
-use Rattle.ft_trace.specs.Acts.{mem, view_after}
+use Rattle.ft_trace.specs.Acts.{mem}
 use Rattle.ft_trace.specs.Addresses.{container_count, class_of, size, IsBoxName}
-use Rattle.ft_trace.specs.Boxes.{value_at, names_box, made_state, place_to_give, references_held, known_box_word, state_default, IsDoneWithBoxes}
+use Rattle.ft_trace.specs.Boxes.{value_at, names_box, references_held, known_box_word, IsSettled}
 use Rattle.ft_trace.specs.ContainerStates.{kind_in}
 use Rattle.ft_trace.specs.Holds.{held_words, held_unboxed}
 use Rattle.ft_trace.specs.Kinds.{rows, version_at}
@@ -20,52 +19,37 @@ use Rattle.ft_trace.proofs.Cases.{here, miss}
 use Rattle.ft_trace.proofs.Known.{table_is_long}
 use Rattle.ft_trace.proofs.ReadTables.{rows_long, value_low}
 use Rattle.ft_bank.specs.declared.table.Table.{Table}
-use Rattle.ft_bank.specs.BoxSteps.{IsOpenValue, kind_read, payload_read}
-use Rattle.ft_bank.specs.SameBoxes.{SameMade, SameReferences}
+use Rattle.ft_bank.specs.BoxSteps.{HasReferenceFor, IsOpenValue, kind_read, payload_read}
+use Rattle.ft_bank.specs.SameBoxes.{HoldsFew, SameMade, SameReferences, TakesNoPlace}
 use Rattle.ft_bank.specs.TableNames.{table_id}
 use Rattle.ft_bank.specs.Whole.{OnlyBoxed, OnlyLoaded, OnlyPut, OnlyWritten, SameWork}
 use Rattle.ft_bank.specs.WriteSteps.{with_table}
-use Rattle.ft_bank.proofs.DoneBoxes.{done_none}
+use Rattle.ft_bank.proofs.DoneBoxes.{stays_settled_same}
 use Rattle.ft_bank.proofs.KnownAfterWrites.{loaded_held, loaded_put, put_then, put_written, boxed_written, written_then}
 use Rattle.ft_bank.proofs.NamedBoxes.{named_is_box, named_is_known}
 use Rattle.ft_search.specs.Boxed.{IsKnownBox, WritesTable}
-use Rattle.ft_search.proofs.Puts.{done_then, table_class}
-use Rattle.ft_search.proofs.Unboxing.{dropped_place, given_place, reads_plain, word_reads, kind_again}
-
--- ---- a drop, and a place given back
-
-pub drop_made : (v : View) (c f : ℕ) → f < 2 ^ 64 → place_to_give c v.log ≡ 0 → f ≢ 7 → SameMade v (view_after (DropShared c f) v)
-drop_made v c f low none ne = record { state = λ b. refl; local = λ b. refl; taken = λ b. refl; places = λ b. dropped_place v c f b low none ne }
-
-pub give_made : (v : View) (c f : ℕ) → place_to_give c v.log ≡ 0 → SameMade v (view_after (GivePlace c) (view_after (DropShared c f) v))
-give_made v c f none = record { state = λ b. refl; local = λ b. refl; taken = λ b. refl; places = λ b. given_place v c f b none }
+use Rattle.ft_search.proofs.Puts.{few_same, table_class}
+use Rattle.ft_search.proofs.Unboxing.{reads_plain, word_reads, kind_again}
 
 -- ---- the pass writes the table still
 
 module _ (k : Shape) (o : ℕ) (table : Table) (v w : View) (shape : v.shape ≡ k) (writes : WritesTable k o table v) where
-  pub table_done : SameWork v w → IsDoneWithBoxes k w.log → root_in (held_words o w) ≡ root_in (held_words o v) → WritesTable k o table w
-  table_done work done root = record {
+  pub table_done : SameWork v w → IsSettled w.log → HoldsFew w → root_in (held_words o w) ≡ root_in (held_words o v) → WritesTable k o table w
+  table_done work settled few root = record {
     container = writes.container;
     table_in = writes.table_in;
     locked = work.pass.locks o ∙ writes.locked;
     odd = work.pass.writes o ∙ writes.odd;
     root = root ∙ writes.root;
-    boxes = done;
+    settled = settled;
+    few = few;
   }
 
   pub table_on : SameWork v w → SameReferences v w → SameMade v w → root_in (held_words o w) ≡ root_in (held_words o v) → WritesTable k o table w
-  table_on work references made root = table_done work (done_then k v w shape work.pass.shape references made writes.boxes) root
+  table_on work references made root = table_done work ((stays_settled_same v w made).settled writes.settled) (few_same v w references writes.few) root
 
   pub table_loaded : OnlyLoaded v w → WritesTable k o table w
   table_loaded l = table_on l.work l.boxes.references l.boxes.made (ap root_in (loaded_held v w o l))
-
-  -- where the pass holds no reference after it
-  pub table_none : OnlyWritten o v w → ((b : ℕ) → references_held k b w.log ≡ 0) → root_in (held_words o w) ≡ root_in (held_words o v) → WritesTable k o table w
-  table_none only none root =
-      let now : w.shape ≡ k = only.work.pass.shape ∙ shape in
-      table_done only.work
-      (subst (λ (z : Shape). IsDoneWithBoxes z w.log) now
-      (done_none v w (λ b. ap (λ (z : Shape). references_held z b w.log) now ∙ none b) only.made (subst (λ (z : Shape). IsDoneWithBoxes z v.log) (sym shape) writes.boxes))) root
 
   pub still_unboxed : OnlyLoaded v w → held_unboxed o w ≡ held_unboxed o v
   still_unboxed l = l.unboxed o (subst (λ (z : Shape). o < container_count z) (sym shape) writes.container) writes.locked
@@ -157,14 +141,53 @@ kept_kind x word payload = get_or-set_other x.table (word + 1) word payload 0 (�
 pub boxed_held : (v w : View) (o : ℕ) → OnlyBoxed v w → held_words o w ≡ held_words o v
 boxed_held v w o a = ap (λ (k : Shape). picture k o (mem k w.log)) a.work.pass.shape ∙ ap (λ (ws : List ℕ). picture v.shape o ws) a.words
 
+kept_payload : (x : ContainerWords) (word payload : ℕ) → word + 1 < length x.table → slice_index (with_table x (word + 1) payload).table (word + 1) ≡ payload
+kept_payload x word payload long = get_or-set_same x.table (word + 1) payload 0 long
+
+put_payload : (x : ContainerWords) (word kind payload : ℕ) → word + 1 < length x.table → slice_index (with_table (with_table x word kind) (word + 1) payload).table (word + 1) ≡ payload
+put_payload x word kind payload long = kept_payload (with_table x word kind) word payload (let e = length-set x.table word kind in omega (arith, long, e))
+
+-- ---- references
+
+-- as many as before, in one shape
+pub held_same : (k : Shape) (v w : View) → v.shape ≡ k → w.shape ≡ k → SameReferences v w → (b : ℕ) → references_held k b w.log ≡ references_held k b v.log
+held_same k v w first then_ same b = ap (λ (z : Shape). references_held z b w.log) (sym then_) ∙ (same b ∙ ap (λ (z : Shape). references_held z b v.log) first)
+
+-- the pass holds one for a box that these words name
+named_own : (k : Shape) (v : View) (kind payload b : ℕ) → v.shape ≡ k → HasReferenceFor v kind payload → names_box b kind payload ≤ references_held k b v.log
+named_own k v kind payload b shape own =
+    dite (ℕ_discrete kind 4)
+    (λ four. dite (ℕ_discrete payload b)
+    (λ (e : payload ≡ b).
+    let one : names_box b kind payload ≡ 1 = boxed_names b kind payload four ∙ here payload b 1 0 e in
+    let some_ : 0 < references_held k b v.log = subst (λ (z : Shape × ℕ). 0 < references_held z.0 z.1 v.log) (λ d. (shape d, e d)) (own four).0 in
+    omega (arith, one, some_))
+    (λ ne. let none : names_box b kind payload ≡ 0 = boxed_names b kind payload four ∙ miss payload b 1 0 ne in omega (arith, none)))
+    (λ ne. let none = plain_names b kind payload ne in omega (arith, none))
+
+-- words that name no box need none
+pub plain_refs : (k : Shape) (v w : View) (kind payload : ℕ) → v.shape ≡ k → w.shape ≡ k → kind ≢ 4 → ((b : ℕ) → references_held k b w.log + names_box b kind payload ≡ references_held k b v.log) → SameReferences v w
+plain_refs k v w kind payload first then_ ne moved b =
+    let none = plain_names b kind payload ne in
+    let m = moved b in
+    let e : references_held k b w.log ≡ references_held k b v.log = omega (arith, m, none) in
+    ap (λ (z : Shape). references_held z b w.log) then_ ∙ (e ∙ sym (ap (λ (z : Shape). references_held z b v.log) first))
+
+-- and read as they stand
+pub plain_words : (v : View) (x y : ContainerWords) (word kind payload : ℕ) → kind ≢ 4 → y ≡ with_table (with_table x word (kind_read v kind payload)) (word + 1) (payload_read v kind payload) → y ≡ with_table (with_table x word kind) (word + 1) payload
+plain_words v x y word kind payload ne is = let reads = reads_plain v kind payload ne in is ∙ (λ d. with_table (with_table x word (reads.0 d)) (word + 1) (reads.1 d))
+
 -- ---- a put over a value, in its three ways: the pass knew v, after its loads r, and after the put p
 
-module _ (k : Shape) (o : ℕ) (table : Table) (word kind payload : ℕ) (v r p : View) (shape : v.shape ≡ k) (writes : WritesTable k o table v) (open_ : IsOpenValue v o (table_id table) word) (l : OnlyLoaded v r) (plain : kind ≢ 4) (only : OnlyPut o r p) where
+module _ (k : Shape) (o : ℕ) (table : Table) (word kind payload : ℕ) (v r p : View) (shape : v.shape ≡ k) (writes : WritesTable k o table v) (open_ : IsOpenValue v o (table_id table) word) (l : OnlyLoaded v r) (own : HasReferenceFor v kind payload) (reads : (kind_read r kind payload ≡ kind_read v kind payload) × (payload_read r kind payload ≡ payload_read v kind payload)) (only : OnlyPut o r p) where
   abbrev T : List ℕ
   T = (held_words o r).table
 
   abbrev changed : ContainerWords → ContainerWords
   changed x = with_table (with_table x word kind) (word + 1) payload
+
+  abbrev read_so : ContainerWords → ContainerWords
+  read_so x = with_table (with_table x word (kind_read v kind payload)) (word + 1) (payload_read v kind payload)
 
   pub here_shape : r.shape ≡ k
   here_shape = l.work.pass.shape ∙ shape
@@ -178,94 +201,124 @@ module _ (k : Shape) (o : ℕ) (table : Table) (word kind payload : ℕ) (v r p 
   there_shape : p.shape ≡ k
   there_shape = only.work.pass.shape ∙ here_shape
 
-  from_here : changed (held_unboxed o r) ≡ changed (held_unboxed o v)
-  from_here = ap changed (still_unboxed k o table v r shape writes l)
+  long_here : word + 1 < length (held_words o r).table
+  long_here = value_long k o table word r here_shape here_writes here_open
+
+  same_here : (b : ℕ) → references_held k b r.log ≡ references_held k b v.log
+  same_here = held_same k v r shape here_shape l.boxes.references
+
+  few_here : (b : ℕ) → references_held k b v.log < 2 ^ 31
+  few_here b = subst (λ (z : Shape). references_held z b v.log < 2 ^ 31) shape (writes.few b)
 
   pub over_only : OnlyWritten o v p
   over_only = put_written o v p (put_then v r p o (loaded_put v r o l) only)
 
   -- the payload alone
-  module _ (is : kind ≡ slice_index T word) (held : held_words o p ≡ with_table (held_words o r) (word + 1) payload) where
+  module _ (ne : kind ≢ 4) (is : kind ≡ slice_index T word) (held : held_words o p ≡ with_table (held_words o r) (word + 1) payload) where
     pub same_writes : SameReferences r p → WritesTable k o table p
     same_writes same = table_on k o table r p here_shape here_writes only.work same only.made (ap root_in held)
 
-    pub same_raw : slice_index (held_words o p).table word ≢ 4
-    same_raw e = plain (is ∙ (sym (kept_kind (held_words o r) word payload) ∙ (sym (ap (λ (x : ContainerWords). slice_index x.table word) held) ∙ e)))
+    pub same_raw : (slice_index (held_words o p).table word ≡ kind) × (slice_index (held_words o p).table (word + 1) ≡ payload)
+    same_raw = (
+      ap (λ (x : ContainerWords). slice_index x.table word) held ∙ (kept_kind (held_words o r) word payload ∙ sym is),
+      ap (λ (x : ContainerWords). slice_index x.table (word + 1)) held ∙ kept_payload (held_words o r) word payload long_here,
+    )
 
-    pub same_words : held_unboxed o p ≡ with_table (held_unboxed o r) (word + 1) payload → held_unboxed o p ≡ changed (held_unboxed o v)
+    pub same_refs : SameReferences r p → (b : ℕ) → references_held k b p.log + names_box b kind payload ≡ references_held k b v.log
+    same_refs same b =
+        let none = plain_names b kind payload ne in
+        let there = held_same k r p here_shape there_shape same b in
+        let now = same_here b in
+        omega (arith, none, there, now)
+
+    pub same_words : held_unboxed o p ≡ with_table (held_unboxed o r) (word + 1) payload → held_unboxed o p ≡ read_so (held_unboxed o v)
     same_words put =
+        let plain = reads_plain v kind payload ne in
         put
-        ∙ (kind_again (held_unboxed o r) word kind payload (is ∙ sym (kind_stands k o table word r here_shape here_writes here_open (λ e. plain (is ∙ e))))
-        ∙ from_here)
+        ∙ (kind_again (held_unboxed o r) word kind payload (is ∙ sym (kind_stands k o table word r here_shape here_writes here_open (λ e. ne (is ∙ e))))
+        ∙ (ap changed (still_unboxed k o table v r shape writes l)
+        ∙ (λ d. with_table (with_table (held_unboxed o v) word (sym plain.0 d)) (word + 1) (sym plain.1 d))))
 
   -- both words
   module _ (held : held_words o p ≡ changed (held_words o r)) (put : held_unboxed o p ≡ with_table (with_table (held_unboxed o r) word (kind_read r kind payload)) (word + 1) (payload_read r kind payload)) (references : (b : ℕ) → references_held k b p.log + names_box b kind payload ≡ references_held k b r.log + names_box b (slice_index T word) (slice_index T (word + 1))) where
-    pub both_raw : slice_index (held_words o p).table word ≢ 4
-    both_raw e =
-        plain (sym (put_kind (held_words o r) word kind payload (value_long k o table word r here_shape here_writes here_open))
-        ∙ (sym (ap (λ (x : ContainerWords). slice_index x.table word) held) ∙ e))
+    pub both_raw : (slice_index (held_words o p).table word ≡ kind) × (slice_index (held_words o p).table (word + 1) ≡ payload)
+    both_raw = (
+      ap (λ (x : ContainerWords). slice_index x.table word) held ∙ put_kind (held_words o r) word kind payload long_here,
+      ap (λ (x : ContainerWords). slice_index x.table (word + 1)) held ∙ put_payload (held_words o r) word kind payload long_here,
+    )
 
-    pub both_words : held_unboxed o p ≡ changed (held_unboxed o v)
-    both_words =
-        let reads = reads_plain r kind payload plain in
-        put ∙ ((λ d. with_table (with_table (held_unboxed o r) word (reads.0 d)) (word + 1) (reads.1 d)) ∙ from_here)
+    pub both_words : held_unboxed o p ≡ read_so (held_unboxed o v)
+    both_words = put ∙ (λ d. with_table (with_table (still_unboxed k o table v r shape writes l d) word (reads.0 d)) (word + 1) (reads.1 d))
 
     -- over a value in place
-    pub both_writes : slice_index T word ≢ 4 → WritesTable k o table p
-    both_writes ne =
-        let same : SameReferences r p = λ b.
-        let moved = references b in
-        let none = plain_names b kind payload plain in
-        let nor = plain_names b (slice_index T word) (slice_index T (word + 1)) ne in
-        let e : references_held k b p.log ≡ references_held k b r.log = omega (arith, moved, none, nor) in
-        ap (λ (z : Shape). references_held z b p.log) there_shape ∙ (e ∙ sym (ap (λ (z : Shape). references_held z b r.log) here_shape)) in
-        table_on k o table r p here_shape here_writes only.work same only.made (ap root_in held)
+    module _ (ne : slice_index T word ≢ 4) where
+      pub both_refs : (b : ℕ) → references_held k b p.log + names_box b kind payload ≡ references_held k b v.log
+      both_refs b =
+          let moved = references b in
+          let nor = plain_names b (slice_index T word) (slice_index T (word + 1)) ne in
+          let now = same_here b in
+          omega (arith, moved, nor, now)
+
+      pub both_writes : WritesTable k o table p
+      both_writes =
+          let few : HoldsFew p = λ b.
+          let low : references_held k b p.log < 2 ^ 31 = let r = both_refs b in let f = few_here b in omega (arith, r, f) in
+          subst (λ (z : Shape). references_held z b p.log < 2 ^ 31) (sym there_shape) low in
+          table_done k o table r p here_shape here_writes only.work ((stays_settled_same r p only.made).settled here_writes.settled) few (ap root_in held)
 
     -- over one that stands in the box c
     module _ (c : ℕ) (four : slice_index T word ≡ 4) (names : c ≡ slice_index T (word + 1)) where
-      one_held : (b : ℕ) → references_held k b p.log ≡ cond (eqb b c) 1 0
-      one_held b =
-          let moved = references b in
-          let none = plain_names b kind payload plain in
-          let zero_ = (here_writes.boxes b).0 in
-          let one : names_box b (slice_index T word) (slice_index T (word + 1)) ≡ cond (eqb b c) 1 0 =
-          boxed_names b (slice_index T word) (slice_index T (word + 1)) four ∙ (ap (λ (n : ℕ). cond (eqb n b) 1 0) (sym names) ∙ other_way c b) in
-          omega (arith, moved, none, zero_, one)
-
-      pub box_shared : made_state c p.log ≢ state_default
-      box_shared e = (here_writes.boxes c).2 (sym (only.made.state c) ∙ e)
+      named_then : (b : ℕ) → names_box b (slice_index T word) (slice_index T (word + 1)) ≡ cond (eqb b c) 1 0
+      named_then b = boxed_names b (slice_index T word) (slice_index T (word + 1)) four ∙ (ap (λ (n : ℕ). cond (eqb n b) 1 0) (sym names) ∙ other_way c b)
 
       pub box_held : 0 < references_held k c p.log
-      box_held = let one = one_held c in let self_ : ◌≡◌ {A = ℕ} (cond (eqb c c) 1 0) 1 = here c c 1 0 refl in omega (arith, one, self_)
+      box_held =
+          let moved = references c in
+          let one = named_then c in
+          let self_ : ◌≡◌ {A = ℕ} (cond (eqb c c) 1 0) 1 = here c c 1 0 refl in
+          let mine = named_own k v kind payload c shape own in
+          let now = same_here c in
+          omega (arith, moved, one, self_, mine, now)
 
-      pub box_none : place_to_give c p.log ≡ 0
-      box_none = only.made.places c ∙ (here_writes.boxes c).3
+      pub box_settled : IsSettled p.log
+      box_settled = (stays_settled_same r p only.made).settled here_writes.settled
 
       pub box_is : ∥ IsReachable r ∥₁ → IsBoxName k c
       box_is possible = subst (λ (b : ℕ). IsBoxName k b) (sym names) (value_box k o table word r here_shape here_writes here_open possible four)
 
       -- after the drop of the reference the pass knew w
-      module _ (w : View) (boxed : OnlyBoxed p w) (made : SameMade p w) (dropped : (b : ℕ) → references_held k b p.log ≡ references_held k b w.log + cond (eqb b c) 1 0) where
+      module _ (w : View) (boxed : OnlyBoxed p w) (settled : IsSettled w.log) (places : TakesNoPlace p w) (dropped : (b : ℕ) → references_held k b p.log ≡ references_held k b w.log + cond (eqb b c) 1 0) where
         end_shape : w.shape ≡ k
         end_shape = boxed.work.pass.shape ∙ there_shape
 
-        pub drop_none : (b : ℕ) → references_held k b w.log ≡ 0
-        drop_none b = let one = one_held b in let less = dropped b in omega (arith, one, less)
+        pub drop_refs : (b : ℕ) → references_held k b w.log + names_box b kind payload ≡ references_held k b v.log
+        drop_refs b =
+            let moved = references b in
+            let one = named_then b in
+            let less = dropped b in
+            let now = same_here b in
+            omega (arith, moved, one, less, now)
 
         pub drop_only : OnlyWritten o v w
-        drop_only = written_then o v p w over_only (boxed_written o p w boxed made (λ b.
+        drop_only = written_then o v p w over_only (boxed_written o p w boxed (record { settled = λ s. settled; places = places }) (λ b.
             let less = dropped b in
             let now : references_held w.shape b w.log ≡ references_held k b w.log = ap (λ (z : Shape). references_held z b w.log) end_shape in
             let was : references_held p.shape b p.log ≡ references_held k b p.log = ap (λ (z : Shape). references_held z b p.log) there_shape in
             omega (arith, less, now, was)))
 
         pub drop_writes : WritesTable k o table w
-        drop_writes = table_none k o table v w shape writes drop_only drop_none (ap root_in (boxed_held p w o boxed) ∙ (ap root_in held ∙ ap root_in (loaded_held v r o l)))
+        drop_writes =
+            let few : HoldsFew w = λ b.
+            let low : references_held k b w.log < 2 ^ 31 = let r = drop_refs b in let f = few_here b in omega (arith, r, f) in
+            subst (λ (z : Shape). references_held z b w.log < 2 ^ 31) (sym end_shape) low in
+            table_done k o table v w shape writes drop_only.work settled few (ap root_in (boxed_held p w o boxed) ∙ (ap root_in held ∙ ap root_in (loaded_held v r o l)))
 
-        pub drop_raw : slice_index (held_words o w).table word ≢ 4
-        drop_raw e = both_raw (sym (ap (λ (x : ContainerWords). slice_index x.table word) (boxed_held p w o boxed)) ∙ e)
+        pub drop_raw : (slice_index (held_words o w).table word ≡ kind) × (slice_index (held_words o w).table (word + 1) ≡ payload)
+        drop_raw =
+            let same = boxed_held p w o boxed in
+            (ap (λ (x : ContainerWords). slice_index x.table word) same ∙ both_raw.0, ap (λ (x : ContainerWords). slice_index x.table (word + 1)) same ∙ both_raw.1)
 
-        pub drop_words : held_unboxed o w ≡ changed (held_unboxed o v)
+        pub drop_words : held_unboxed o w ≡ read_so (held_unboxed o v)
         drop_words =
             boxed.unboxed o (subst (λ (z : Shape). o < container_count z) (sym there_shape) writes.container) (only.work.pass.locks o ∙ here_writes.locked)
             ∙ both_words

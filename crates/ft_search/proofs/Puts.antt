@@ -33,9 +33,9 @@ use Rattle.ft_trace.proofs.ValuePlaces.{keyed_far}
 use Rattle.ft_bank.specs.declared.table.Table.{Table}
 use Rattle.ft_bank.specs.TableNames.{table_id, IsTableIn}
 use Rattle.ft_bank.specs.Whole.{OnlyLoaded, OnlyPut}
-use Rattle.ft_bank.specs.SameBoxes.{HoldsFew, SameMade, SameReferences}
+use Rattle.ft_bank.specs.SameBoxes.{HoldsFew, SameMade, SameReferences, StaysSettled}
 use Rattle.ft_bank.specs.WriteSteps.{HasReferencesFor, IsCareful}
-use Rattle.ft_bank.proofs.DoneBoxes.{done_as}
+use Rattle.ft_bank.proofs.DoneBoxes.{stays_settled_same}
 use Rattle.ft_bank.proofs.TableAddresses.{named}
 use Rattle.ft_bank.proofs.KnownAfterWrites.{IsLoad, loaded_by, loaded_put, loaded_held, work_knows}
 use Rattle.ft_search.specs.OneEntryWrites.{WritesEntries}
@@ -62,11 +62,15 @@ few_places k t kind place is keyed low =
     let r = (slots_range (class_of (table_id t)) (table_class k t is)).1 in
     omega (arith, f, low, r)
 
--- ---- references
+-- ---- boxes
+
+-- the pass holds few references still
+pub few_same : (v w : View) → SameReferences v w → HoldsFew v → HoldsFew w
+few_same v w same few b = subst (λ (n : ℕ). n < 2 ^ 31) (sym (same b)) (few b)
 
 -- a pass that is done with boxes holds few references
 pub few_done : (k : Shape) (v : View) → v.shape ≡ k → IsDoneWithBoxes k v.log → HoldsFew v
-few_done k v shape done b = let e = (subst (λ (z : Shape). IsDoneWithBoxes z v.log) (sym shape) done b).0 in omega (arith, e)
+few_done k v shape done b = let e = (subst (λ (z : Shape). IsDoneWithBoxes z v.log) (sym shape) done).none b in omega (arith, e)
 
 -- a word of an entry that is no value's needs none
 pub entry_refs : (v : View) (o t place w x : ℕ) → IsKeyed (kind_in v.shape.starts o) → w < 8 → w ≢ 4 → w ≢ 5 → HoldsFew v → HasReferencesFor v o t (entry_offset (slots (class_of t)) place w) x
@@ -88,14 +92,20 @@ shut_reads v o t names raw =
     subst (Shut (version_at kd (class_of t)) (rows kd (class_of t))) (sym (by_root box kd (root_in (held_words o v)) t (held_words o v).table names)) (read_shut box kd (class_of t) (held_words o v).table raw)
 
 -- the pass is done with boxes still
+pub done_settled : (k : Shape) (v w : View) → v.shape ≡ k → w.shape ≡ v.shape → SameReferences v w → StaysSettled v w → IsDoneWithBoxes k v.log → IsDoneWithBoxes k w.log
+done_settled k v w shape same references stays done = record {
+  settled = stays.settled done.settled;
+  none = λ b. ap (λ (z : Shape). references_held z b w.log) (sym (same ∙ shape)) ∙ (references b ∙ (ap (λ (z : Shape). references_held z b v.log) shape ∙ done.none b));
+  stored = λ b e. done.stored b (stays.places b e);
+}
+
 pub done_then : (k : Shape) (v w : View) → v.shape ≡ k → w.shape ≡ v.shape → SameReferences v w → SameMade v w → IsDoneWithBoxes k v.log → IsDoneWithBoxes k w.log
-done_then k v w shape same references made done =
-    subst (λ (z : Shape). IsDoneWithBoxes z w.log) (same ∙ shape) (done_as v w references made (subst (λ (z : Shape). IsDoneWithBoxes z v.log) (sym shape) done))
+done_then k v w shape same references made done = done_settled k v w shape same references (stays_settled_same v w made) done
 
 -- who is done with boxes before and after holds the same references
 pub same_done : (k : Shape) (v w : View) → v.shape ≡ k → w.shape ≡ k → IsDoneWithBoxes k v.log → IsDoneWithBoxes k w.log → SameReferences v w
 same_done k v w first then_ before after b =
-    ap (λ (z : Shape). references_held z b w.log) then_ ∙ ((after b).0 ∙ sym (ap (λ (z : Shape). references_held z b v.log) first ∙ (before b).0))
+    ap (λ (z : Shape). references_held z b w.log) then_ ∙ (after.none b ∙ sym (ap (λ (z : Shape). references_held z b v.log) first ∙ before.none b))
 
 -- the pass still writes the container
 pub writes_on : (k : Shape) (o : ℕ) (table : Table) (v w : View) → v.shape ≡ k → OnlyPut o v w → SameReferences v w → root_in (held_unboxed o w) ≡ root_in (held_unboxed o v) → WritesEntries k o table v → WritesEntries k o table w
@@ -106,7 +116,8 @@ writes_on k o table v w shape only references root writes = record {
   locked = only.work.pass.locks o ∙ writes.locked;
   odd = only.work.pass.writes o ∙ writes.odd;
   root = root ∙ writes.root;
-  boxes = done_then k v w shape only.work.pass.shape references only.made writes.boxes;
+  settled = (stays_settled_same v w only.made).settled writes.settled;
+  few = few_same v w references writes.few;
 }
 
 pub writes_loaded : (k : Shape) (o : ℕ) (table : Table) (a : Act) (v w : View) → v.shape ≡ k → IsLoad a → w ≡ view_after a v → WritesEntries k o table v → WritesEntries k o table w

@@ -45,7 +45,7 @@ still_loaded v u o s =
     }
 
 still_answered : (called : Call) (said : Reply) (n : ℕ) (u : View) → IsStill u → IsStill (view_after (Answer called said n) u)
-still_answered called said n u s = record { even = s.even; hands = s.hands; used = s.used; owes = s.owes; flight = s.flight; boxes = s.boxes; stands = s.stands }
+still_answered called said n u s = record { even = s.even; hands = s.hands; used = s.used; owes = s.owes; flight = s.flight; boxes = record { settled = record { unmade = s.boxes.settled.unmade; counted = s.boxes.settled.counted; whole = s.boxes.settled.whole; given = s.boxes.settled.given }; none = s.boxes.none; stored = s.boxes.stored }; stands = s.stands }
 
 -- what the entry of a call that isn't a write leaves
 pub still_read : (called : Call) (said : Reply) (n : ℕ) (v w : View) → Answered called said n v w → IsStill v → IsStill w

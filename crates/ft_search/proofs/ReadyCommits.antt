@@ -1,5 +1,5 @@
 -- That a call on a dict or a set may be committed whose words are put, and what holds from then on.
-use Rattle.std.proofs.Common.{◌≡◌, ℕ, suc, ◌+◌, ◌%◌, ◌<◌, ◌≤◌, true, false, true≢false, List, refl, sym, ap, ◌∙◌, subst, arith}
+use Rattle.std.proofs.Common.{◌≡◌, ◌≢◌, ℕ, suc, ◌+◌, ◌%◌, ◌^◌, ◌<◌, ◌≤◌, true, false, true≢false, List, refl, sym, ap, ◌∙◌, subst, arith}
 use Rattle.std.specs.Prelude.{slice_index}
 use Rattle.std.proofs.Math.Logic.{∥∥₁_elim}
 use Rattle.std.proofs.Math.Nat.{ℕ_set}
@@ -16,7 +16,7 @@ use Rattle.ft_trace.specs.declared.Snap.{Snap}
 use Rattle.ft_trace.specs.declared.View.{View}
 use Rattle.ft_trace.specs.Acts.{has_lock, is_writing, has_emptied, owes, view_after, seen_writes}
 use Rattle.ft_trace.specs.Addresses.{container_count, class_of, slots}
-use Rattle.ft_trace.specs.Boxes.{IsDoneWithBoxes}
+use Rattle.ft_trace.specs.Boxes.{place_use, references_held, use_taken, IsSettled}
 use Rattle.ft_trace.specs.Holds.{held_words, held_unboxed, known_state}
 use Rattle.ft_trace.specs.Kinds.{rows, version_at, CarefulAs, ClearAs, IsKeyed, under}
 use Rattle.ft_trace.specs.OddVersions.{Shut, Timely}
@@ -35,7 +35,7 @@ use Rattle.ft_bank.proofs.KnownAfterWrites.{work_knows, put_same, put_written, p
 use Rattle.ft_search.specs.OneEntryWrites.{HasTable, Leaves, MayFinish, MayWriteEntries, WritesEntries, raised_at}
 use Rattle.ft_search.proofs.Calling.{plain_replied}
 use Rattle.ft_search.proofs.Changing.{Changing}
-use Rattle.ft_search.proofs.Puts.{entry_refs, shut_reads}
+use Rattle.ft_search.proofs.Puts.{entry_refs, few_done, shut_reads}
 use Rattle.ft_trace.proofs.Opened.{shut_opens}
 
 -- ---- from the start of a write to its commit
@@ -71,10 +71,10 @@ module _ (o : ℕ) (v s u : View) (f : ℕ) (begun : s ≡ view_after (StartWrit
   }
 
   -- where its words say what it leaves, it may be committed
-  pub may_commit : (called : Call) (said : Reply) (left : ContainerState) → Leaves o called said left v → o < container_count v.shape → 0 < v.left → owes v.log ≡ 0
+  pub may_commit : (called : Call) (said : Reply) (left : ContainerState) → Leaves o called said left v → o < container_count v.shape → 0 < v.left → owes v.log ≡ 0 → ((b : ℕ) → place_use b v.log ≢ use_taken)
       → ((t : ℕ) → root_in (held_unboxed o u) ≡ suc t → ClearAs (kind_in v.shape.starts o) v.shape.texts (class_of t) (held_unboxed o u).table (known_state o v).content left.content)
       → MayCommit u called said
-  may_commit called said left l low some none clear =
+  may_commit called said left l low some none untaken clear =
       let late = leaves_later called said left l in
       let odd : is_writing o u.log ≡ true = puts.work.pass.writes o ∙ (ap (λ (z : View). is_writing o z.log) begun ∙ hit o true (is_writing o v.log)) in
       let empty : has_emptied o u.log ≡ false = puts.work.emptied o ∙ (ap (λ (z : View). has_emptied o z.log) begun ∙ hit o false (has_emptied o v.log)) in
@@ -82,6 +82,7 @@ module _ (o : ℕ) (v s u : View) (f : ℕ) (begun : s ≡ view_after (StartWrit
       let clears : (stored : StoredWorld) (t : ℕ) → MayHave u stored → root_in (held_unboxed o u) ≡ suc t → ClearAs (kind_in u.shape.starts o) u.shape.texts (class_of t) (held_unboxed o u).table (known_state o u).content (state_at (after_stored stored called) o).content =
       λ stored t has names. subst (λ (z : Shape × ContainerState × ContainerState). ClearAs (kind_in z.0.starts o) z.0.texts (class_of t) (held_unboxed o u).table z.1.content z.2.content)
       (sym (λ d. (same_shape d, same_known o d, late.left_is stored has d))) (clear t names) in
+      let still : (b : ℕ) → place_use b u.log ≢ use_taken = λ b e. untaken b (ap (λ (z : View). place_use b z.log) (sym begun) ∙ puts.made.places b e) in
       let at : o ≡ changes called = sym l.changed in
       record {
         write = l.write;
@@ -96,6 +97,7 @@ module _ (o : ℕ) (v s u : View) (f : ℕ) (begun : s ≡ view_after (StartWrit
         takes = λ stored class has e. absurd (omega (arith, e, owed));
         locks = late.locks;
         empties = λ e. absurd (true≢false (sym e ∙ subst (λ (n : ℕ). has_emptied n u.log ≡ false) at empty));
+        stores = λ stored has. ((λ b e. absurd (still b e)), (λ b c e other. absurd (still b e)));
       }
 
   pub whole_root : (called : Call) (said : Reply) (number : ℕ) (w : View) → changes called ≡ o → EndsWrite called said number u w → root_in (held_unboxed o u) ≡ root_in (held_unboxed o v) → root_in (held_unboxed o w) ≡ root_in (held_unboxed o v)
@@ -188,7 +190,7 @@ module _ (k : Shape) (o : ℕ) (v s : View) (f : ℕ) (may : MayWriteEntries k o
   pub nothing_commits : ∥ IsReachable v ∥₁ → MayCommit s called said
   nothing_commits possible =
       let same : held_unboxed o v ≡ held_unboxed o s = sym (ap (λ (z : View). held_unboxed o z) begun) in
-      may_commit o v s s f begun (put_written o s s (put_same s o)) called said (known_state o v) leaves low' may.left may.owes
+      may_commit o v s s f begun (put_written o s s (put_same s o)) called said (known_state o v) leaves low' may.left may.owes may.boxes.stored
       (λ t names. clear_same (kind_in v.shape.starts o) keyed' v.shape.texts (class_of t) (held_unboxed o s).table (known_state o v).content
       (subst (λ (z : ContainerWords). Shut (version_at (kind_in v.shape.starts o) (class_of t)) (rows (kind_in v.shape.starts o) (class_of t)) z.table) same (shut_before possible t (ap root_in same ∙ names))))
 
@@ -254,7 +256,7 @@ module _ (k : Shape) (o : ℕ) (table : Table) (v s u : View) (f : ℕ) (may : M
 
   pub entry_finishes : MayFinish o table place called said u
   entry_finishes = record {
-    may = may_commit o v s u f begun only called said left leaves low'' may.left may.owes clears;
+    may = may_commit o v s u f begun only called said left leaves low'' may.left may.owes may.boxes.stored clears;
     changed = leaves.changed;
     left = left;
     left_is = (leaves_later o v s u f begun only called said left leaves).left_is;
@@ -264,14 +266,18 @@ module _ (k : Shape) (o : ℕ) (table : Table) (v s u : View) (f : ℕ) (may : M
     shut = subst (λ (z : Kind × ContainerWords). Shut (version_at z.0 c') (rows z.0 c') (raised_at (table_id table) place z.1).table) (λ d. (kind_u d, sym words d)) change.shut;
   }
 
+pub settled_begun : (o : ℕ) (v s : View) (f : ℕ) → s ≡ view_after (StartWrite o f) v → IsSettled v.log → IsSettled s.log
+settled_begun o v s f begun x = subst (λ (z : View). IsSettled z.log) (sym begun) (record { unmade = x.unmade; counted = x.counted; whole = x.whole; given = x.given })
+
 -- the pass writes the container once it has begun
-pub writes_begun : (k : Shape) (o : ℕ) (table : Table) (v s : View) (f : ℕ) → s ≡ view_after (StartWrite o f) v → MayWriteEntries k o v → HasTable k o table v → WritesEntries k o table s
-writes_begun k o table v s f begun may has = record {
+pub writes_begun : (k : Shape) (o : ℕ) (table : Table) (v s : View) (f : ℕ) → v.shape ≡ k → s ≡ view_after (StartWrite o f) v → MayWriteEntries k o v → HasTable k o table v → WritesEntries k o table s
+writes_begun k o table v s f shape begun may has = record {
   container = may.container;
   keyed = may.keyed;
   table_in = has.table_in;
   locked = ap (λ (z : View). has_lock o z.log) begun ∙ may.locked;
   odd = ap (λ (z : View). is_writing o z.log) begun ∙ hit o true (is_writing o v.log);
   root = ap (λ (z : View). root_in (held_unboxed o z)) begun ∙ has.root;
-  boxes = subst (λ (z : View). IsDoneWithBoxes k z.log) (sym begun) may.boxes;
+  settled = settled_begun o v s f begun may.boxes.settled;
+  few = λ b. subst (λ (n : ℕ). n < 2 ^ 31) (sym (ap (λ (z : View). references_held z.shape b z.log) begun)) (few_done k v shape may.boxes b);
 }

@@ -1,18 +1,14 @@
--- Boxes by their names, values as they read, and what a put over a value and a drop leave.
+-- Boxes by their names, values as they read, and what a put over a value leaves.
 use Rattle.std.proofs.Common.{◌≡◌, ◌≢◌, ℕ, suc, ◌+◌, ◌-◌, ◌*◌, ◌/◌, ◌%◌, ◌^◌, ◌<◌, ◌≤◌, eqb, cond, List, length, sym, ap, ◌∙◌, subst, arith}
 use Rattle.std.specs.Prelude.{slice_index}
-use mathlib.Core.Logic.{dite}
-use native.Mathlib.Decide.{ℕ_discrete}
 use Rattle.std.proofs.Math.Bridge.{le_prop}
 use Rattle.std.proofs.Math.Logic.{∥∥₁_elim}
 use Rattle.ft_layout.specs.declared.slot.Ref.{Ref}
 use Rattle.ft_model.specs.declared.script.Kind.{Kind}
 use Rattle.ft_trace.specs.declared.Shape.{Shape}
 use Rattle.ft_trace.specs.declared.View.{View}
-use Rattle.ft_trace.specs.declared.Act.TheVariants.{DropShared, GivePlace}
-use Rattle.ft_trace.specs.Acts.{view_after}
 use Rattle.ft_trace.specs.Addresses.{class_of, size, maker_of, place_in, IsBoxName}
-use Rattle.ft_trace.specs.Boxes.{value_at, place_to_give, references_held, known_box_word}
+use Rattle.ft_trace.specs.Boxes.{value_at, known_box_word}
 use Rattle.ft_trace.specs.ContainerStates.{kind_in}
 use Rattle.ft_trace.specs.Holds.{held_words, held_unboxed}
 use Rattle.ft_trace.specs.Kinds.{rows}
@@ -104,40 +100,3 @@ put_again x word kind payload one two =
 pub kind_again : (x : ContainerWords) (word kind payload : ℕ) → kind ≡ slice_index x.table word → with_table x (word + 1) payload ≡ with_table (with_table x word kind) (word + 1) payload
 kind_again x word kind payload one =
     sym ((λ d. with_table (with_table x word (one d)) (word + 1) payload) ∙ (λ d. with_table (record { block = x.block; table = set_self x.table word d }) (word + 1) payload))
-
--- ---- references
-
--- the count of a merged box with one reference comes to its end
-pub last_is : (f : ℕ) → f < 2 ^ 64 → (f ≡ 7 → (f + (2 ^ 64 - 4)) % 2 ^ 64 ≡ 3) × (f ≢ 7 → (f + (2 ^ 64 - 4)) % 2 ^ 64 ≢ 3)
-last_is f low = ((λ e. omega (arith, e)), (λ ne z. ne (omega (arith, low, z))))
-
--- after a drop: the place is to be given where the count came to its end
-pub dropped_place : (v : View) (c f b : ℕ) → f < 2 ^ 64 → place_to_give c v.log ≡ 0 → f ≢ 7 → place_to_give b (view_after (DropShared c f) v).log ≡ place_to_give b v.log
-dropped_place v c f b low none ne =
-    let n = place_to_give b v.log in
-    dite (ℕ_discrete c b)
-    (λ (e : c ≡ b). here c b (cond (eqb ((f + (2 ^ 64 - 4)) % 2 ^ 64) 3) 1 n) n e ∙ miss ((f + (2 ^ 64 - 4)) % 2 ^ 64) 3 1 n ((last_is f low).1 ne))
-    (λ other. miss c b (cond (eqb ((f + (2 ^ 64 - 4)) % 2 ^ 64) 3) 1 n) n other)
-
-pub given_place : (v : View) (c f b : ℕ) → place_to_give c v.log ≡ 0 → place_to_give b (view_after (GivePlace c) (view_after (DropShared c f) v)).log ≡ place_to_give b v.log
-given_place v c f b none =
-    let n = place_to_give b v.log in
-    let m = cond (eqb c b) (cond (eqb ((f + (2 ^ 64 - 4)) % 2 ^ 64) 3) 1 n) n in
-    dite (ℕ_discrete c b)
-    (λ (e : c ≡ b). here c b 0 m e ∙ sym (subst (λ (z : ℕ). place_to_give z v.log ≡ 0) e none))
-    (λ other. miss c b 0 m other ∙ miss c b (cond (eqb ((f + (2 ^ 64 - 4)) % 2 ^ 64) 3) 1 n) n other)
-
--- one reference less
-pub dropped_one : (v : View) (c f b : ℕ) → 0 < references_held v.shape c v.log → references_held v.shape b v.log ≡ references_held v.shape b (view_after (DropShared c f) v).log + cond (eqb b c) 1 0
-dropped_one v c f b held =
-    let n = references_held v.shape b v.log in
-    dite (ℕ_discrete c b)
-    (λ (e : c ≡ b).
-    let now : references_held v.shape b (view_after (DropShared c f) v).log ≡ n - 1 = here c b (n - 1) n e in
-    let one : ◌≡◌ {A = ℕ} (cond (eqb b c) 1 0) 1 = here b c 1 0 (sym e) in
-    let some_ : 0 < n = subst (λ (z : ℕ). 0 < references_held v.shape z v.log) e held in
-    omega (arith, now, one, some_))
-    (λ ne.
-    let now : references_held v.shape b (view_after (DropShared c f) v).log ≡ n = miss c b (n - 1) n ne in
-    let none : ◌≡◌ {A = ℕ} (cond (eqb b c) 1 0) 0 = miss b c 1 0 (λ z. ne (sym z)) in
-    omega (arith, now, none))

@@ -7,13 +7,15 @@ use Rattle.ft_trace.specs.declared.Shape.{Shape}
 use Rattle.ft_trace.specs.declared.View.{View}
 use Rattle.ft_trace.specs.Acts.{has_lock, is_writing}
 use Rattle.ft_trace.specs.Addresses.{container_count, class_of, IsBoxName}
-use Rattle.ft_trace.specs.Boxes.{value_at, known_box_word, knows_box_word, IsDoneWithBoxes}
+use Rattle.ft_trace.specs.Boxes.{value_at, known_box_word, knows_box_word, IsSettled}
 use Rattle.ft_trace.specs.BoxWords.{box_kind}
 use Rattle.ft_trace.specs.ContainerStates.{kind_in}
 use Rattle.ft_trace.specs.Holds.{held_words}
 use Rattle.ft_trace.specs.Kinds.{rows}
 use Rattle.ft_trace.specs.Pictures.{root_in}
 use Rattle.ft_bank.specs.declared.table.Table.{Table}
+use Rattle.ft_bank.specs.BoxSteps.{kind_read, payload_read, HasReferenceFor}
+use Rattle.ft_bank.specs.SameBoxes.{HoldsFew}
 use Rattle.ft_bank.specs.TableNames.{table_id, IsTableIn}
 use Rattle.ft_search.specs.declared.boxed.SeenValue.{SeenValue}
 
@@ -31,15 +33,16 @@ NamedAreKnown v =
     → slice_index (held_words o v).table (value_at (kind_in v.shape.starts o) (class_of t) row) ≡ 4
     → IsKnownBox v (slice_index (held_words o v).table (suc (value_at (kind_in v.shape.starts o) (class_of t) row)))
 
--- The pass writes the container o, whose root names the table, and holds no reference for a box, makes none and has
--- merged each that it made.
+-- The pass writes the container o, whose root names the table; what it has to do with its own boxes is settled, and it
+-- holds few references.
 pub record WritesTable (k : Shape) (o : ℕ) (table : Table) (v : View) : Type 0 where
   pub container : o < container_count k
   pub table_in : IsTableIn k table
   pub locked : has_lock o v.log ≡ true
   pub odd : is_writing o v.log ≡ true
   pub root : root_in (held_words o v) ≡ suc (table_id table)
-  pub boxes : IsDoneWithBoxes k v.log
+  pub settled : IsSettled v.log
+  pub few : HoldsFew v
 
 -- the loads of the box that a value names, newest first, where it names one
 abbrev pub box_acts : Bool → ℕ → ℕ → ℕ → List Act
@@ -58,3 +61,11 @@ SeesKnown v payload seen =
     seen.boxed ≡ true → IsKnownBox v payload
     → (seen.kind ≡ known_box_word v.shape payload kind_word v.log)
     × (seen.value ≡ known_box_word v.shape payload payload_word v.log)
+
+-- A value for which the pass holds a reference where it names a box, and whose value the pass knows then, is so still, and
+-- reads the same.
+abbrev pub KeepsOwn : View → View → Type 0
+KeepsOwn v w =
+    (kind payload : ℕ) → HasReferenceFor v kind payload
+    → HasReferenceFor w kind payload × (kind_read w kind payload ≡ kind_read v kind payload)
+    × (payload_read w kind payload ≡ payload_read v kind payload)

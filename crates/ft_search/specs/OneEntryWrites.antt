@@ -15,7 +15,7 @@ use Rattle.ft_trace.specs.declared.Shape.{Shape}
 use Rattle.ft_trace.specs.declared.View.{View}
 use Rattle.ft_trace.specs.Addresses.{container_count, class_of, slots}
 use Rattle.ft_trace.specs.Acts.{has_lock, is_writing, owes}
-use Rattle.ft_trace.specs.Boxes.{IsDoneWithBoxes}
+use Rattle.ft_trace.specs.Boxes.{IsDoneWithBoxes, IsSettled}
 use Rattle.ft_trace.specs.Carefuls.{HasLiveKey}
 use Rattle.ft_trace.specs.DeleteWrites.{delete_puts}
 use Rattle.ft_trace.specs.FitCalls.{FitsCall}
@@ -27,6 +27,7 @@ use Rattle.ft_trace.specs.Pictures.{ContainerWords, root_in, entry_offset, entry
 use Rattle.ft_trace.specs.ContainerStates.{ContainerState, state_at, kind_in, changes}
 use Rattle.ft_trace.specs.WholeWrites.{Put, to_block}
 use Rattle.ft_bank.specs.declared.table.Table.{Table}
+use Rattle.ft_bank.specs.SameBoxes.{HoldsFew}
 use Rattle.ft_bank.specs.TableNames.{table_id, IsTableIn}
 use Rattle.ft_bank.specs.WriteSteps.{MayHave, MayCommit, with_table}
 use Rattle.ft_search.specs.MadeCalls.{IsReplyTo}
@@ -59,8 +60,8 @@ pub record HasTable (k : Shape) (o : ℕ) (table : Table) (v : View) : Type 0 wh
   pub table_in : IsTableIn k table
   pub root : root_in (held_unboxed o v) ≡ suc (table_id table)
 
--- The pass writes the container o, a dict or a set, whose root names the table; it holds no reference for a box and
--- makes none. (profile)
+-- The pass writes the container o, a dict or a set, whose root names the table; what it has to do with its own boxes is
+-- settled, and it holds few references. (profile)
 pub record WritesEntries (k : Shape) (o : ℕ) (table : Table) (v : View) : Type 0 where
   pub container : o < container_count k
   pub keyed : IsKeyed (kind_in k.starts o)
@@ -68,7 +69,8 @@ pub record WritesEntries (k : Shape) (o : ℕ) (table : Table) (v : View) : Type
   pub locked : has_lock o v.log ≡ true
   pub odd : is_writing o v.log ≡ true
   pub root : root_in (held_unboxed o v) ≡ suc (table_id table)
-  pub boxes : IsDoneWithBoxes k v.log
+  pub settled : IsSettled v.log
+  pub few : HoldsFew v
 
 -- A call is a write of the container o that takes no table: the plain containers reply so to it, whatever else the bank
 -- has that agrees with what the pass knows, and o has this content and this table then; the pass has the locks of the

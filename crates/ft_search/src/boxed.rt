@@ -3,13 +3,13 @@
 ghost use Rattle.std.specs.Prelude.{◌≡◌, ◌≢◌, ℕ, ◌+◌, ◌/◌, ◌^◌, ◌<◌, ◌==◌, List, cond, slice_index};
 ghost use Rattle.ft_trace.specs.declared.Act.{Act};
 ghost use Rattle.ft_trace.specs.Addresses.{class_of, maker_of, place_in, IsBoxName};
-ghost use Rattle.ft_trace.specs.Boxes.{made_state, place_to_give, references_held, state_default, IsDoneWithBoxes};
+ghost use Rattle.ft_trace.specs.Boxes.{names_box, references_held, IsSettled};
 ghost use Rattle.ft_trace.specs.BoxWords.{box_kind};
 ghost use Rattle.ft_trace.specs.Holds.{held_words, held_unboxed};
-ghost use Rattle.ft_bank.specs.BoxSteps.{kind_read, payload_read, IsOpenValue};
+ghost use Rattle.ft_bank.specs.BoxSteps.{kind_read, payload_read, HasReferenceFor, IsOpenValue};
 ghost use Rattle.ft_bank.specs.Passes.{shape_of, view, IsPassOf};
 ghost use Rattle.ft_bank.specs.PassSections.{stack_of};
-ghost use Rattle.ft_bank.specs.SameBoxes.{SameMade};
+ghost use Rattle.ft_bank.specs.SameBoxes.{SameReferences, TakesNoPlace};
 ghost use Rattle.ft_bank.specs.Series.{DidAll};
 ghost use Rattle.ft_bank.specs.TableNames.{table_id, IsPlaceOf};
 ghost use Rattle.ft_bank.specs.Whole.{OnlyBoxed, OnlyLoaded, OnlyWritten};
@@ -19,6 +19,7 @@ ghost use Rattle.ft_search.specs.KeyLooks.{AreLooks};
 ghost use Rattle.ft_search.specs.SearchCosts.{index_reads};
 
 use ft_bank::{Bank, Pass, Table};
+use ft_boxes::taken;
 use ft_layout::Ref;
 
 /// The kind of a value that stands in a box.
@@ -29,8 +30,6 @@ const KIND: u64 = 1;
 const PAYLOAD: u64 = 2;
 /// The step between the names of two passes' first boxes.
 const NAMES: u64 = 65536;
-/// The shared word of a merged box for which there is one reference.
-const LAST: u64 = 7;
 
 /// The box that a payload names.
 pub(crate) fn box_of(payload: u64) -> Ref
@@ -122,31 +121,28 @@ pub fn see_value(bank: &Bank, pass: &mut Pass, kind: u64, payload: u64) -> SeenV
     }
 }
 
-/// Drops a reference that the pass holds for a box which it shares with others; who brings the box to its end gives the
-/// place back.
+/// Drops a reference that the pass holds for a box; who brings the box to its end gives the place back.
 pub fn release(bank: &Bank, pass: &mut Pass, payload: u64)
     requires pass { IsPassOf bank.now pass.old }
     requires name { IsBoxName (shape_of bank.now) payload }
-    requires shared { made_state payload (view pass.old).log ≢ state_default }
     requires held { 0 < references_held (shape_of bank.now) payload (view pass.old).log }
-    requires none { place_to_give payload (view pass.old).log ≡ 0 }
+    requires settled { IsSettled (view pass.old).log }
     ensures pass { IsPassOf bank.now pass.new }
     ensures stack { stack_of pass.new ≡ stack_of pass.old }
     ensures only { OnlyBoxed (view pass.old) (view pass.new) }
-    ensures made { SameMade (view pass.old) (view pass.new) }
+    ensures settled { IsSettled (view pass.new).log }
+    ensures places { TakesNoPlace (view pass.old) (view pass.new) }
     ensures references { (b : ℕ) → references_held (shape_of bank.now) b (view pass.old).log ≡
         references_held (shape_of bank.now) b (view pass.new).log + cond (b == payload) 1 0 }
 {
-    let b = box_of(payload);
-    let found = bank.drop_shared(pass, b);
-    if found != LAST {
-        return;
-    }
-    bank.give_place(pass, b);
+    let held = taken(bank, pass, box_of(payload));
+    ft_boxes::release(bank, pass, held);
 }
 
-/// Puts a value over that of an entry or item whose version is odd, whose kind lies at this word of the table. Where the
-/// old value names a box its reference is dropped. `start` is where the table's words lie.
+/// Puts a value over that of an entry or item whose version is odd, whose kind lies at this word of the table: the value
+/// itself, or what names the box in which it stands, for which the pass holds a reference and whose value it knows. That
+/// reference is the words' then. Where the old value names a box its reference is dropped. `start` is where the table's
+/// words lie.
 #[inline(always)]
 pub fn put_over(
     bank: &Bank,
@@ -162,17 +158,22 @@ pub fn put_over(
     requires writes { WritesTable (shape_of bank.now) o table (view pass.old) }
     requires start { IsPlaceOf (shape_of bank.now) table start }
     requires open { IsOpenValue (view pass.old) o (table_id table) word }
-    requires plain { kind ≢ box_kind }
+    requires own { HasReferenceFor (view pass.old) kind payload }
     ensures pass { IsPassOf bank.now pass.new }
     ensures stack { stack_of pass.new ≡ stack_of pass.old }
     ensures writes { WritesTable (shape_of bank.now) o table (view pass.new) }
     ensures only { OnlyWritten o (view pass.old) (view pass.new) }
-    ensures raw { slice_index (held_words o (view pass.new)).table word ≢ box_kind }
+    ensures raw { (slice_index (held_words o (view pass.new)).table word ≡ kind)
+        × (slice_index (held_words o (view pass.new)).table (word + 1) ≡ payload) }
     ensures words { held_unboxed o (view pass.new) ≡
-        with_table (with_table (held_unboxed o (view pass.old)) word kind) (word + 1) payload }
+        with_table (with_table (held_unboxed o (view pass.old)) word (kind_read (view pass.old) kind payload))
+        (word + 1) (payload_read (view pass.old) kind payload) }
+    ensures references { (b : ℕ) →
+        references_held (shape_of bank.now) b (view pass.new).log + names_box b kind payload ≡
+        references_held (shape_of bank.now) b (view pass.old).log }
 {
     let old = bank.read_word(pass, table, start, word);
-    if old == kind {
+    if old == kind && kind != BOX_KIND {
         bank.put_payload(pass, o, table, start, word, payload);
         return;
     }
@@ -199,6 +200,7 @@ pub fn put_unboxed(bank: &Bank, pass: &mut Pass, o: u32, table: Table, start: u6
     ensures only { OnlyWritten o (view pass.old) (view pass.new) }
     ensures raw { slice_index (held_words o (view pass.new)).table word ≢ box_kind }
     ensures words { held_unboxed o (view pass.new) ≡ held_unboxed o (view pass.old) }
+    ensures references { SameReferences (view pass.old) (view pass.new) }
 {
     let old = bank.read_word(pass, table, start, word);
     if old != BOX_KIND {

@@ -44,6 +44,7 @@ pub fn put_deleted(bank: &Bank, pass: &mut Pass, o: u32, table: Table, place: u6
     ensures stack { stack_of pass.new ≡ stack_of pass.old }
     ensures writes { WritesEntries (shape_of bank.now) o table (view pass.new) }
     ensures only { OnlyWritten o (view pass.old) (view pass.new) }
+    ensures references { SameReferences (view pass.old) (view pass.new) }
     ensures words { held_unboxed o (view pass.new) ≡ with_puts (held_unboxed o (view pass.old))
         (deletion (table_id table) place key (held_unboxed o (view pass.old))) }
 {

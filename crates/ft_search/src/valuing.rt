@@ -55,6 +55,7 @@ pub fn put_value(
     ensures stack { stack_of pass.new ≡ stack_of pass.old }
     ensures writes { WritesEntries (shape_of bank.now) o table (view pass.new) }
     ensures only { OnlyWritten o (view pass.old) (view pass.new) }
+    ensures references { SameReferences (view pass.old) (view pass.new) }
     ensures words { held_unboxed o (view pass.new) ≡ with_puts (held_unboxed o (view pass.old))
         (value_puts (slots (class_of (table_id table))) (held_unboxed o (view pass.old)).table place None value) }
 {

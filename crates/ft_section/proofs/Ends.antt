@@ -1,5 +1,5 @@
 -- A section ends: its entry is made, and then what it took is let go.
-use Rattle.std.proofs.Common.{◌≡◌, ◌≢◌, ◌<◌, ◌+◌, ℕ, true, List, [], ◌∷◌, ◌++◌, drop, ⊎_elim, sym, ap, ◌∙◌, subst, arith}
+use Rattle.std.proofs.Common.{◌≡◌, ◌≢◌, ◌<◌, ◌+◌, ℕ, true, List, [], ◌∷◌, ◌++◌, drop, ⊎_elim, refl, sym, ap, ◌∙◌, subst, arith}
 use Rattle.std.specs.Prelude.{Some}
 use Rattle.std.proofs.lemmas.List.{same_from_push}
 use Rattle.std.proofs.lemmas.List.Elements.{All-pop}
@@ -8,6 +8,7 @@ use Rattle.ft_bank.specs.declared.pass.Pass.{Pass}
 use Rattle.ft_bank.specs.declared.sections.OpenSection.{OpenSection}
 use Rattle.ft_bank.specs.Passes.{view}
 use Rattle.ft_bank.specs.PassSections.{Stack, stack_of, taken_in, noted_in}
+use Rattle.ft_bank.proofs.DoneBoxes.{done_as}
 use Rattle.ft_model.specs.declared.call.Call.TheVariants as call
 use Rattle.ft_model.specs.declared.reply.Reply.{Reply}
 use Rattle.ft_section.specs.Ready.{InCall, IsReady, AreBegun, IsBegun, lock_count}
@@ -73,7 +74,7 @@ ended b p w outer top said n r split go =
       used = i.still.used;
       owes = i.still.owes;
       flight = i.still.flight;
-      boxes = i.still.boxes;
+      boxes = done_as v (answered_view call.End said n v) (λ c. refl) (record { state = λ c. refl; local = λ c. refl; taken = λ c. refl; places = λ c. refl; uses = λ c. refl }) i.still.boxes;
       stands = i.still.stands;
     }) i.locks i.low go
     (λ o. let e = ap (noted_in o) split ∙ noted_push o outer top in omega (arith, e))

@@ -1,5 +1,5 @@
 -- A pass of a new bank has no lock, no section and no table.
-use Rattle.std.proofs.Common.{ℕ, inl, refl, sym, ap, ◌∙◌, subst, arith}
+use Rattle.std.proofs.Common.{ℕ, inl, refl, sym, ap, ◌∙◌, subst}
 use Rattle.std.proofs.lemmas.Bool.{false≢true}
 use Rattle.std.proofs.lemmas.List.Elements.{All-nil}
 use Rattle.ft_bank.specs.declared.bank.Bank.{Bank}
@@ -7,6 +7,7 @@ use Rattle.ft_bank.specs.declared.pass.Pass.{Pass}
 use Rattle.ft_bank.specs.NewPasses.{IsOpening, opening_view}
 use Rattle.ft_bank.specs.Passes.{shape_of, view}
 use Rattle.ft_bank.specs.PassSections.{Stack, no_sections}
+use Rattle.ft_bank.proofs.DoneBoxes.{done_at_first}
 use Rattle.ft_section.specs.Ready.{InCall, IsReady}
 use Rattle.ft_section.specs.LockTakings.{IsLockTaking}
 use Rattle.ft_section.proofs.Resumes.{push_some, none_some}
@@ -22,7 +23,7 @@ fresh_in_call k i =
         used = refl;
         owes = refl;
         flight = refl;
-        boxes = λ b. (refl, (λ z. omega (arith, z)), (λ z. omega (arith, z)), refl);
+        boxes = done_at_first;
         stands = λ o low has. absurd (false≢true has);
       };
       locks = λ o. refl;

@@ -9,6 +9,7 @@ use Rattle.ft_bank.specs.declared.pass.Pass.{Pass}
 use Rattle.ft_bank.specs.declared.sections.OpenSection.{OpenSection}
 use Rattle.ft_bank.specs.Passes.{shape_of, view}
 use Rattle.ft_bank.specs.PassSections.{stack_of, noted_in, nothing_taken}
+use Rattle.ft_bank.proofs.DoneBoxes.{done_as}
 use Rattle.ft_model.specs.declared.reply.Reply.TheVariants as reply
 use Rattle.ft_model.specs.Calls.{containers_of}
 use Rattle.ft_section.specs.declared.answers.Objects.{Objects}
@@ -110,7 +111,7 @@ entered b p objects n m low has noted order =
         used = i.still.used;
         owes = i.still.owes;
         flight = i.still.flight;
-        boxes = i.still.boxes;
+        boxes = done_as v (answered_view (begin_of objects) reply.Entered n v) (λ c. refl) (record { state = λ c. refl; local = λ c. refl; taken = λ c. refl; places = λ c. refl; uses = λ c. refl }) i.still.boxes;
         stands = i.still.stands;
       };
       locks = λ o. let a = i.locks o in let e = noted_push o s.sections here in omega (arith, a, e);

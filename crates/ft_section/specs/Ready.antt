@@ -15,9 +15,10 @@ use Rattle.ft_trace.specs.Holds.{held_unboxed, known_state}
 use Rattle.ft_trace.specs.BegunSections.{Begun, begun, is_among}
 use Rattle.ft_trace.specs.Pictures.{Represents}
 
--- A pass is in the midst of no write, of no taking of a table and of nothing with boxes: no version is odd by it, it has
--- no table in hand but such as it retired, it holds no reference for a box, makes none and has merged each that it made,
--- and the words of each container whose lock it has stand for what the writes make of it. (profile)
+-- A pass is in the midst of no write, of no taking of a table and of nothing with boxes: no version is odd by it, and it
+-- has no table in hand but such as it retired. It holds no reference for a box, makes none, and has no place to give back;
+-- each of its boxes in the default state has a local count above 0, and each that it made was stored by a write, or its
+-- place given back. The words of each container whose lock it has stand for what the writes make of it. (profile)
 pub record IsStill (v : View) : Type 0 where
   pub even : (o : ℕ) → is_writing o v.log ≡ false
   pub hands : (t : ℕ) → (stage t v.log ≡ 0) ⊎ (stage t v.log ≡ 4)

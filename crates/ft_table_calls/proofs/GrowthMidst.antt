@@ -27,7 +27,7 @@ use Rattle.ft_bank.specs.SameBoxes.{SameReferences}
 use Rattle.ft_bank.specs.Whole.{OnlyLoaded, SamePass, Wrote, hand_after}
 use Rattle.ft_bank.proofs.KnownAfterWrites.{same_pass, pass_then}
 use Rattle.ft_section.specs.Ready.{IsStill, IsMaking}
-use Rattle.ft_bank.proofs.DoneBoxes.{done_as}
+use Rattle.ft_bank.proofs.DoneBoxes.{done_as, done_stays}
 use Rattle.ft_section.proofs.MidstOfCall.{making_stays}
 use Rattle.ft_search.proofs.ReadMidst.{LeavesSections, still_loaded, still_read, sections_read}
 use Rattle.ft_table_calls.specs.declared.adding.Added.{Added}
@@ -70,7 +70,7 @@ module _ (called : Call) (said : Reply) (n : ℕ) (v w : View) (s : IsStill v) (
 
   pub wrote_still : root_in (held_words o w) ≡ root_in (held_words o v) → SameReferences v w → IsStill w
   wrote_still root references =
-      wrote_still_so (done_as v w references wrote.made s.boxes)
+      wrote_still_so (done_stays v w wrote.made (λ b. references b ∙ s.boxes.none b) s.boxes)
       (λ t. subst IsOut (sym (wrote.hands t ∙ (ap (λ (z : ℕ). hand_after o (root_in (held_words o v)) z t (stage t v.log)) root ∙ hit (root_in (held_words o v)) (stage t v.log) _))) (s.hands t))
 
 -- ---- takings
@@ -119,7 +119,7 @@ retired_done : (root : ℕ) (v w : View) → Retires root v w → IsDoneWithBoxe
 retired_done zero v w is done = subst (λ (u : View). IsDoneWithBoxes u.shape u.log) (sym is) done
 retired_done (suc t) v w is done =
     subst (λ (u : View). IsDoneWithBoxes u.shape u.log) (sym is.1)
-    (λ b. let d = done b in (d.0, d.1, d.2, d.3))
+    (record { settled = record { unmade = done.settled.unmade; counted = done.settled.counted; whole = done.settled.whole; given = done.settled.given }; none = done.none; stored = done.stored })
 
 retired_work : (root : ℕ) (v w : View) → Retires root v w → (used w.log ≡ used v.log) × (owes w.log ≡ owes v.log)
 retired_work zero v w is = (ap (λ (u : View). used u.log) is, ap (λ (u : View). owes u.log) is)
@@ -200,7 +200,7 @@ module _ (k : Shape) (class : ℕ) (called : Call) (said : Reply) (n : ℕ) (v w
         used = r.0 ∙ grew.wrote.used;
         owes = r.1 ∙ grew.wrote.owes;
         flight = grew_same.flight ∙ s.flight;
-        boxes = retired_done old grew.done w grew.retired (done_as taken grew.done grew.references grew.wrote.made boxes);
+        boxes = retired_done old grew.done w grew.retired (done_stays taken grew.done grew.wrote.made (λ b. grew.references b ∙ boxes.none b) boxes);
         stands = stands_written;
       }
 
@@ -278,7 +278,7 @@ module _ (called : Call) (said : Reply) (n : ℕ) (v w : View) (s : IsStill v) (
         used = r.0 ∙ given.wrote.used;
         owes = r.1 ∙ given.wrote.owes;
         flight = given_same.flight ∙ s.flight;
-        boxes = retired_done before given.done w given.retired (done_as v given.done given.references given.wrote.made s.boxes);
+        boxes = retired_done before given.done w given.retired (done_stays v given.done given.wrote.made (λ b. given.references b ∙ s.boxes.none b) s.boxes);
         stands = λ p low has.
             let e = retired_knows before given.done w given.retired p in
             let old = stands_after called said n v given.done s given.wrote p (subst (λ (z : Shape). p < container_count z) same.shape low) (sym (same.locks p) ∙ has) in

@@ -20,6 +20,7 @@ use Rattle.ft_bank.specs.Whole.{SameWork, OnlyLoaded, OnlyWritten, EndsWrite, Wr
 use Rattle.ft_bank.specs.SameBoxes.{MovesReferences, SameReferences, SameMade, named_in_words}
 use Rattle.ft_bank.specs.WriteSteps.{KeepsUnwritten}
 use Rattle.ft_bank.proofs.BoxedSteps.{made_same, made_then}
+use Rattle.ft_bank.proofs.DoneBoxes.{settled_then, stays_settled_same}
 use Rattle.ft_bank.proofs.KnownAfterWrites.{calm, same_work, work_then, work_knows, pass_then, loaded_held}
 use Rattle.ft_table_calls.specs.Adding.{OnlyFilled}
 
@@ -31,7 +32,7 @@ IsFill (PutFresh t i x) = Unit {0}
 IsFill act = ⊥
 
 fill_only : (a : Act) (v : View) → IsFill a → SameWork v (view_after a v) × SameReferences v (view_after a v) × SameMade v (view_after a v)
-fill_only (PutFresh t i x) v ok = (calm (PutFresh t i x) v tt, (λ b. refl), record { state = λ b. refl; local = λ b. refl; taken = λ b. refl; places = λ b. refl })
+fill_only (PutFresh t i x) v ok = (calm (PutFresh t i x) v tt, (λ b. refl), record { state = λ b. refl; local = λ b. refl; taken = λ b. refl; places = λ b. refl; uses = λ b. refl })
 fill_only a v ok = absurd ok
 
 pub filled_by : (a : Act) (v w : View) → IsFill a → w ≡ view_after a v → KeepsUnwritten v w → OnlyFilled v w
@@ -74,7 +75,7 @@ module _ (called : Call) (said : Reply) (n : ℕ) (v u w : View) (l : OnlyFilled
         used = x.used;
         owes = x.owes;
         tables = x.tables ∙ l.work.tables;
-        made = made_then v u w l.made x.made;
+        made = settled_then v u w (stays_settled_same v u l.made) x.made;
         loses = λ b. subst (λ (m : ℕ). references_held w.shape b w.log + named_in_words b (kind_in w.shape.starts o) (held_words o w) ≤ m) (λ d. l.references b d + named_in_words b (kind_in (s d).starts o) (words d)) (x.loses b);
         seen = le_trans l.work.pass.seen x.seen;
         shows = x.shows;
@@ -155,7 +156,7 @@ module _ (called : Call) (said : Reply) (number f root : ℕ) (v r u w : View) w
         used = ends.used;
         owes = ends.owes;
         tables = ends.tables ∙ w1.tables;
-        made = made_then v rooted w (record { state = λ b. refl; local = λ b. refl; taken = λ b. refl; places = λ b. refl }) (made_then rooted u w puts.made ends.made);
+        made = settled_then v rooted w (stays_settled_same v rooted (record { state = λ b. refl; local = λ b. refl; taken = λ b. refl; places = λ b. refl; uses = λ b. refl })) (settled_then rooted u w puts.made ends.made);
         loses = λ b. subst (λ (m : ℕ). m ≤ references_held v.shape b v.log + named_in_words b (kind_in v.shape.starts at) (held_words at v)) (sym (ends.moves b)) (subst (λ (m : ℕ). references_held u.shape b u.log + named_in_words b (kind_in u.shape.starts at) (held_words at u) ≤ m) (moves b) (puts.loses b));
         seen = le_trans p1.seen ends.seen;
         shows = ends.shows;

@@ -1,5 +1,5 @@
 -- What a pass knows of a box into which it has put a value.
-use Rattle.std.proofs.Common.{◌≡◌, ◌≢◌, ℕ, eqb, true, cond, List, ◌∷◌, ap, ◌∙◌, subst, sym, arith}
+use Rattle.std.proofs.Common.{◌≡◌, ◌≢◌, ℕ, eqb, true, cond, List, ◌∷◌, ◌∙◌, subst, sym, arith}
 use Rattle.ft_trace.specs.declared.Act.{Act}
 use Rattle.ft_trace.specs.declared.Act.TheVariants.{PutBox}
 use Rattle.ft_trace.specs.declared.Shape.{Shape}

@@ -11,9 +11,9 @@ use Rattle.ft_trace.proofs.Cases.{hit, here}
 use Rattle.ft_trace.proofs.NextActions.{next_possible}
 
 pub boxes_may_be_made : BoxesMayBeMade
-boxes_may_be_made v b x y live p is mine not1 not2 none value =
+boxes_may_be_made v b x y live p is mine not1 not2 none idle value =
     let k = v.shape in
-    let t = next_possible v live p (λ n. TakePlace b n) (heap_bits (maker_of b) (place_word_of b)) (λ _. refl) (λ _. refl) (λ es id knows. (is, mine, not1, not2)) in
+    let t = next_possible v live p (λ n. TakePlace b n) (heap_bits (maker_of b) (place_word_of b)) (λ _. refl) (λ _. refl) (λ es id knows. (is, mine, not1, not2, idle)) in
     let f = t.0 in
     let v1 = view_after (TakePlace b f) v in (
       f,

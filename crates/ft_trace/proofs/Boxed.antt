@@ -15,7 +15,7 @@ use Rattle.ft_trace.specs.Entries.{total}
 use Rattle.ft_trace.specs.Pictures.{root_of, inner}
 use Rattle.ft_trace.specs.ContainerStates.{kind_in}
 use Rattle.std.specs.Prelude.{slice_index}
-use Rattle.ft_trace.specs.Boxes.{named_in_root, named_in_container, named_in_all, made_state, local_count, taken_out, place_to_give, references_held, KeepsBox, IsDoneWithBoxes}
+use Rattle.ft_trace.specs.Boxes.{named_in_root, named_in_container, named_in_all, made_state, local_count, taken_out, place_to_give, references_held, KeepsBox, IsDoneWithBoxes, HasMergedBoxes}
 use Rattle.ft_trace.specs.BoxTraces.{box_state, shared_count, making_box, has_in_default, maker_part, references_held_by, place_to_give_by, references, IsSharedWord, place_bit, BoxInvariant}
 use Rattle.ft_trace.specs.Traces.{Event, did, forked, joined, sent, run, word, history, May, Valid}
 use Rattle.ft_trace.proofs.Addresses.{place_first, box_first, block_first, place_bit_low}
@@ -536,19 +536,18 @@ silent_none k b u e = record {
 }
 
 -- a pass that may be joined
-free_none : (k : Shape) (b : ℕ) (es : List Event) → Valid k es → (j : ℕ) (u : View) → get_elem? (run k es).views j ≡ some u → IsDoneWithBoxes u.shape u.log → HasNone k b u
-free_none k b es valid j u there none =
+free_none : (k : Shape) (b : ℕ) (es : List Event) → Valid k es → (j : ℕ) (u : View) → get_elem? (run k es).views j ≡ some u → IsDoneWithBoxes u.shape u.log → HasMergedBoxes u.log → HasNone k b u
+free_none k b es valid j u there done merged =
     dite (ℕ_discrete u.number 0)
     (λ (e : u.number ≡ 0). silent_none k b u ((seated k es valid j u there).silent e))
     (λ live.
     let same = sized k es valid j u there live in
-    let h = none b in
     record {
-      making_is = miss (made_state b u.log) 1 1 0 h.1;
-      default_is = miss (made_state b u.log) 2 1 0 h.2;
-      kept_is = miss (made_state b u.log) 2 (local_count b u.log + taken_out b u.log) 0 h.2;
-      held_is = ap (λ (z : Shape). references_held z b u.log) (sym same) ∙ h.0;
-      due_is = h.3;
+      making_is = miss (made_state b u.log) 1 1 0 (done.settled.unmade b);
+      default_is = miss (made_state b u.log) 2 1 0 (merged b);
+      kept_is = miss (made_state b u.log) 2 (local_count b u.log + taken_out b u.log) 0 (merged b);
+      held_is = ap (λ (z : Shape). references_held z b u.log) (sym same) ∙ done.none b;
+      due_is = done.settled.given b;
     })
 
 -- the same words, and views with the same sums
@@ -605,7 +604,7 @@ boxed k b (sent id v given ∷ es) valid =
     (boxed k b es valid.0)
 boxed k b (joined id v other w ∷ es) valid =
     let views = (run k es).views in
-    let no = free_none k b es valid.0 other w valid.1.2 valid.1.5.6 in
+    let no = free_none k b es valid.0 other w valid.1.2 valid.1.5.6 valid.1.5.7 in
     let z1 = no.making_is in
     let z2 = no.default_is in
     let z3 = no.kept_is in

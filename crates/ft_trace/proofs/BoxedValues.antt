@@ -1,18 +1,16 @@
 -- A box that is there has a value.
-use Rattle.std.proofs.Common.{◌≡◌, ◌≢◌, ℕ, zero, suc, ◌<◌, ◌≤◌, eqb, Bool, true, false, cond, List, [], ◌∷◌, refl, sym, ap, ◌∙◌, subst, inl, inr, arith}
+use Rattle.std.proofs.Common.{◌≡◌, ◌≢◌, ℕ, zero, suc, ◌<◌, ◌≤◌, eqb, Bool, true, false, cond, List, [], ◌∷◌, refl, sym, ◌∙◌, subst, inl, inr, arith}
 use mathlib.Core.Option.{some}
-use mathlib.Core.Logic.{dite}
-use native.Mathlib.Decide.{ℕ_discrete}
 use lib.ListN.{get_elem?}
 use Rattle.ft_trace.specs.declared.Shape.{Shape}
 use Rattle.ft_trace.specs.declared.View.{View}
 use Rattle.ft_trace.specs.declared.Act.{Act}
-use Rattle.ft_trace.specs.declared.Act.TheVariants.{TakePlace, PutBox, PublishBox, PutTable, PutRoot}
+use Rattle.ft_trace.specs.declared.Act.TheVariants.{PublishBox, PutTable, PutRoot}
 use Rattle.ft_trace.specs.Bits.{bit}
 use Rattle.ft_trace.specs.Addresses.{box_word, place_bit_of}
 use Rattle.ft_trace.specs.Boxes.{made_state, known_box_word}
 use Rattle.ft_trace.specs.BoxLaws.{BoxesHaveValues}
-use Rattle.ft_trace.specs.BoxTraces.{box_state, box_state_next, making_box, has_in_default}
+use Rattle.ft_trace.specs.BoxTraces.{box_state, box_state_next, has_in_default}
 use Rattle.ft_trace.specs.BoxWords.{IsBoxedValue}
 use Rattle.ft_trace.specs.Traces.{Event, did, forked, joined, sent, run, word, history, May, Valid}
 use Rattle.ft_trace.proofs.BoxActs.{on_box}

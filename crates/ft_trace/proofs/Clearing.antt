@@ -23,7 +23,7 @@ use Rattle.ft_trace.specs.Pictures.{root_of, inner, ContainerWords, root_in, pic
 use Rattle.ft_trace.specs.Kinds.{rows, version_at}
 use Rattle.ft_trace.specs.OddVersions.{Shut}
 use Rattle.ft_trace.specs.Holds.{held_words, held_unboxed, known_state}
-use Rattle.ft_trace.specs.Boxes.{known_box_word, references_held}
+use Rattle.ft_trace.specs.Boxes.{known_box_word, references_held, place_use, use_taken}
 use Rattle.ft_trace.specs.Unboxed.{unboxed}
 use Rattle.ft_trace.proofs.PlainPuts.{FewReferences, few_at_first, zero_refs}
 use Rattle.ft_trace.specs.Traces.{did, run, word, history, snap, May, Valid, IsReachable, Sure, IsAwake}
@@ -73,7 +73,7 @@ held_shut v o q low p mine quiet names =
     subst (Shut (version_at (kind_in v.shape.starts o) (class_of q)) (rows (kind_in v.shape.starts o) (class_of q))) (sym w.0) (holder_shut v.shape p.0 p.2.0 o low p.1 v p.2.1 mine quiet q w.1)
 
 -- start, root 0, length 0, commit, stop, unlock
-module _ (v : View) (o : ℕ) (values : List Value) (live : IsAwake v) (possible : IsReachable v) (small : v.shape.passes * v.shape.calls < 2 ^ 46) (low : o < container_count v.shape) (mine : has_lock o v.log ≡ true) (quiet : (p : ℕ) → is_writing p v.log ≡ false) (spare : used v.log ≡ false) (none : owes v.log ≡ 0) (room : 0 < v.left) (few_references : (b : ℕ) → references_held v.shape b v.log < 2 ^ 31) (is_list : (known_state o v).content ≡ content.List values) where
+module _ (v : View) (o : ℕ) (values : List Value) (live : IsAwake v) (possible : IsReachable v) (small : v.shape.passes * v.shape.calls < 2 ^ 46) (low : o < container_count v.shape) (mine : has_lock o v.log ≡ true) (quiet : (p : ℕ) → is_writing p v.log ≡ false) (spare : used v.log ≡ false) (none : owes v.log ≡ 0) (room : 0 < v.left) (few_references : (b : ℕ) → references_held v.shape b v.log < 2 ^ 31) (all_stored : (b : ℕ) → place_use b v.log ≢ use_taken) (is_list : (known_state o v).content ≡ content.List values) where
   abbrev k : Shape
   k = v.shape
 
@@ -192,6 +192,7 @@ module _ (v : View) (o : ℕ) (values : List Value) (live : IsAwake v) (possible
         (λ _. not_yet),
         zero_refs k o old (c1 n).log low long few_first,
         (λ t' (e : 0 ≡ suc t'). absurd (omega (arith, e))),
+        (λ b taken. absurd (all_stored b taken)),
       ))
 
   step3 : (n : ℕ) → IsReachable (c2 n) → (n2 : ℕ) × IsReachable (c3 n)
@@ -217,6 +218,7 @@ module _ (v : View) (o : ℕ) (values : List Value) (live : IsAwake v) (possible
         declared n es id knows,
         tt,
         one_locked o (c3 n).log mine,
+        ((λ b taken. absurd (all_stored b taken)), (λ b c taken. absurd (all_stored b taken))),
       ))
 
   step5 : (n m : ℕ) (s : Snap) → IsReachable (c4 n m s) → (f : ℕ) × IsReachable (c5 n m s f)

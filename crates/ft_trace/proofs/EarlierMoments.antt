@@ -30,7 +30,7 @@ pub online_after : (xs ys : List Act) → Online (xs ++ ys) → Online ys
 online_after [] ys on = on
 online_after (x ∷ xs) ys on = online_after xs ys (online_rest x (xs ++ ys) on)
 
-online_one : (a : Act) (l m : List Act) → Online (a ∷ l) → Online m → Online (a ∷ m)
+pub online_one : (a : Act) (l m : List Act) → Online (a ∷ l) → Online m → Online (a ∷ m)
 online_one (Announce p x) l m on rest = on
 online_one act l m on rest = rest
 

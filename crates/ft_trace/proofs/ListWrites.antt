@@ -46,7 +46,7 @@ abbrev pub WordsFollowAPut : Type 0
 WordsFollowAPut = (block words new : List ℕ) (class : ℕ) (values : List Value) (place : ℕ) (value : Value) → IsListWords block words (Some class) values → place < length values → ChangesItem place words new → SaysStored new place (Plain value) → IsListWords block new (Some class) (slice_set values place value)
 
 pub may_begin : (v : View) (o : ℕ) → MayWrite v o → MayBegin v o
-may_begin v o may = record { live = may.live; possible = may.possible; few = may.few; low = may.low; mine = may.mine; quiet = may.quiet; spare = may.spare; room = may.room; few_references = may.few_references }
+may_begin v o may = record { live = may.live; possible = may.possible; few = may.few; low = may.low; mine = may.mine; quiet = may.quiet; spare = may.spare; room = may.room; few_references = may.few_references; stored = may.stored }
 
 get_set_same : (values : List Value) (p : ℕ) (value : Value) → p < length values → slice_get (slice_set values p value) p ≡ Some value
 get_set_same [] p value low = absurd (omega arith)

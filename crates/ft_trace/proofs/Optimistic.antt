@@ -51,10 +51,10 @@ found_before k es valid o low j u at xs rest n is =
     omega (arith, here, up)
 
 module _ (k : Shape) (es : List Event) (valid : Valid k es) (o : ℕ) (low : o < container_count k) (j : ℕ) (u : View) (at : get_elem? (run k es).views j ≡ some u) (mid : List Act) (b : Between u.log o mid) where
-  abbrev top : Was k es j b.newer (Version o b.version) (mid ++ Version o b.version ∷ b.rest)
+  abbrev pub top : Was k es j b.newer (Version o b.version) (mid ++ Version o b.version ∷ b.rest)
   top = was k es valid j u at b.newer (Version o b.version) (mid ++ Version o b.version ∷ b.rest) b.is
 
-  abbrev now : List Event
+  abbrev pub now : List Event
   now = top.older
 
   in_now : (a : Act) (m : Among a mid) → Was k now j m.newer a (m.rest ++ Version o b.version ∷ b.rest)
@@ -71,7 +71,7 @@ module _ (k : Shape) (es : List Event) (valid : Valid k es) (o : ℕ) (low : o <
       let from = found_before k w.older w.valid o low j w.view w.at m.rest b.rest b.version w.log in
       omega (arith, here, up, from)
 
-  even_now : version k now o % 2 ≡ 0
+  pub even_now : version k now o % 2 ≡ 0
   even_now = ap (λ (n : ℕ). n % 2) (sym top.tells) ∙ b.even
 
   still_now : (a : Act) (m : Among a mid) → Still k (in_now a m).older now o
@@ -92,13 +92,13 @@ module _ (k : Shape) (es : List Event) (valid : Valid k es) (o : ℕ) (low : o <
   abbrev pub shown : ContainerWords
   shown = picture k o (run k now).words
 
-  root_is : (ws : List ℕ) → root_in (picture k o ws) ≡ root_of k o ws
+  pub root_is : (ws : List ℕ) → root_in (picture k o ws) ≡ root_of k o ws
   root_is ws = block_at k o ws 0 (omega arith)
 
   root_read : (a : Act) (f : ℕ) (m : Among a mid) → f ≡ root k (in_now a m).older o → f ≡ root_in shown
   root_read a f m e = e ∙ (sym (root_is (run k (in_now a m).older).words) ∙ ap root_in (sym (still_now a m).picture))
 
-  by_inner : (r : ℕ) (ws : List ℕ) (t i : ℕ) → r ≡ suc t → slice_index (inner k r ws) i ≡ slice_index (table_words k t ws) i
+  pub by_inner : (r : ℕ) (ws : List ℕ) (t i : ℕ) → r ≡ suc t → slice_index (inner k r ws) i ≡ slice_index (table_words k t ws) i
   by_inner r ws t i e = ap (λ (z : ℕ). slice_index (inner k z ws) i) e
 
   -- what was read between them

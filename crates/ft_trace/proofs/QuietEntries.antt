@@ -33,7 +33,7 @@ pub record SameRow (kind : Kind) (class p : ℕ) (ws zs : List ℕ) : Type 0 whe
 next_word : (ws zs : List ℕ) (i j : ℕ) → j ≡ suc i → slice_index zs j ≡ slice_index ws j → slice_index zs (suc i) ≡ slice_index ws (suc i)
 next_word ws zs i j e same = ap (slice_index zs) (sym e) ∙ (same ∙ ap (slice_index ws) e)
 
-later_row : (kind : Kind) (class p : ℕ) (ws zs : List ℕ) → LaterAs kind class ws zs → p < rows kind class → SameRow kind class p ws zs
+pub later_row : (kind : Kind) (class p : ℕ) (ws zs : List ℕ) → LaterAs kind class ws zs → p < rows kind class → SameRow kind class p ws zs
 later_row kind.List class p ws zs l low = record {
   up = l.version p low;
   kind_is = λ even same. l.same p 1 low (omega arith) (omega arith) even same;

@@ -182,11 +182,11 @@ pub next_serials_are_low : NextSerialsAreLow
 next_serials_are_low k es valid o = let low = next_low k es valid o in let count = counted k es valid in omega (arith, low, count)
 
 pub lists_may_be_cleared : ListsMayBeCleared
-lists_may_be_cleared v o values m is = clear_possible v o values m.live m.possible m.few m.low m.mine m.quiet m.spare m.none m.room m.few_references is
+lists_may_be_cleared v o values m is = clear_possible v o values m.live m.possible m.few m.low m.mine m.quiet m.spare m.none m.room m.few_references m.stored is
 
 pub cleared_tables_may_be_given_back : ClearedTablesMayBeGivenBack
 cleared_tables_may_be_given_back v o t values m is first one idle names =
-    let a = clear_possible v o values m.live m.possible m.few m.low m.mine m.quiet m.spare m.none m.room m.few_references is in
+    let a = clear_possible v o values m.live m.possible m.few m.low m.mine m.quiet m.spare m.none m.room m.few_references m.stored is in
     let w = after_clear v o a.0 a.1 a.2 a.3 in
     let n = stage t v.log in
     let three : stage t w.log ≡ 3 = miss 0 (suc t) 0 (cond (eqb (root_in (held_words o v)) (suc t)) 3 n) (λ e. omega (arith, e)) ∙ here (root_in (held_words o v)) (suc t) 3 n names in

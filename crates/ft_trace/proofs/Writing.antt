@@ -29,7 +29,7 @@ use Rattle.ft_trace.proofs.NoWrap.{counter_room, version_room}
 use Rattle.ft_trace.proofs.Held.{root_known, table_known, table_read, agrees_now, put_sure, sound_sure, hand_known, stop_sure}
 use Rattle.ft_trace.proofs.NextActions.{next_possible}
 use Rattle.ft_trace.proofs.Clearing.{held_shut}
-use Rattle.ft_trace.specs.Boxes.{value_at, known_box_word, references_held, named_in_root, named_in_container, HasReferences}
+use Rattle.ft_trace.specs.Boxes.{value_at, known_box_word, references_held, named_in_root, named_in_container, place_use, HasReferences, NamesStored}
 use Rattle.ft_trace.specs.BoxPuts.{HasOwnReference}
 use Rattle.ft_trace.specs.Unboxed.{unboxed_table, unboxed_words, unboxed}
 use Rattle.ft_trace.proofs.ReadTables.{value_low, version_apart, read_version}
@@ -110,6 +110,18 @@ puts_alike o t (to_block i x ∷ puts) log = puts_alike o t puts (PutBlock o i x
 puts_alike o t (to_table i x ∷ puts) log = puts_alike o t puts (PutTable o t i x ∷ log)
 puts_alike o t (to_value None i j a b ∷ puts) log = puts_alike o t puts (PutTable o t j b ∷ PutTable o t i a ∷ log)
 puts_alike o t (to_value (Some c) i j a b ∷ puts) log = puts_alike o t puts (PutTable o t i 4 ∷ PutTable o t j c ∷ log)
+
+-- and of the places of boxes
+uses_put : (o t : ℕ) (puts : List Put) (log : List Act) (b : ℕ) → place_use b (log_of o t puts log) ≡ place_use b log
+uses_put o t [] log b = refl
+uses_put o t (to_block i x ∷ puts) log b = uses_put o t puts (PutBlock o i x ∷ log) b
+uses_put o t (to_table i x ∷ puts) log b = uses_put o t puts (PutTable o t i x ∷ log) b
+uses_put o t (to_value None i j a c ∷ puts) log b = uses_put o t puts (PutTable o t j c ∷ PutTable o t i a ∷ log) b
+uses_put o t (to_value (Some d) i j a c ∷ puts) log b = uses_put o t puts (PutTable o t i 4 ∷ PutTable o t j d ∷ log) b
+
+uses_rooted : (o old : ℕ) (root : Option ℕ) (log : List Act) (b : ℕ) → place_use b (log_of_root o old root log) ≡ place_use b log
+uses_rooted o old None log b = refl
+uses_rooted o old (Some root) log b = refl
 
 -- ---- puts in a row
 
@@ -367,6 +379,10 @@ module _ (v : View) (o t : ℕ) (write : WholeWrite) (begin : MayBegin v o) (may
   none_named : (start : ℕ) → HasReferences n (l1 start) (PutRoot o 0 old) o
   none_named start = zero_refs n o old (l1 start) begin.low wide few_first
 
+  -- each box that the pass made was stored by a write before
+  names_stored : (q start : ℕ) → NamesStored n (l1 start) (PutRoot o q old) o
+  names_stored q start b taken = absurd (begin.stored b taken)
+
   rooted : (r : Option ℕ) → MayReplace v o write.call r → (start : ℕ) → IsReachable (with_log v (l1 start)) → Rooted r (log_of_root o old r (l1 start))
   rooted None m start p = (p, refl, (λ q. refl), odd start, not_yet start, refl, refl, (λ e. off (sym (hit o false (has_emptied o v.log)) ∙ e)), few_first)
   rooted (Some zero) m start p =
@@ -383,6 +399,7 @@ module _ (v : View) (o t : ℕ) (write : WholeWrite) (begin : MayBegin v o) (may
         (λ _. not_yet start),
         none_named start,
         (λ q (e : 0 ≡ suc q). absurd (omega (arith, e))),
+        names_stored 0 start,
       )) in
       let pic = root_put n o begin.low (mem n v.log) 0 wide (λ q (e : 0 ≡ suc q). absurd (omega (arith, e))) in
       let read = ap (unboxed (known_boxes) its) pic ∙ unboxed_root (known_boxes) its (block_of n o (mem n v.log)) (inner n 0 (mem n v.log)) 0 some_block in
@@ -402,6 +419,7 @@ module _ (v : View) (o t : ℕ) (write : WholeWrite) (begin : MayBegin v o) (may
         (λ (e : suc q ≡ 0). absurd (omega (arith, e))),
         refs_now q m.4 start,
         (λ q2 _ done. off (sym (not_yet start) ∙ done)),
+        names_stored (suc q) start,
       )) in
       let pic = root_put n o begin.low (mem n v.log) (suc q) wide (λ q2 (e : suc q ≡ suc q2). let same : q ≡ q2 = cc in subst (IsTableName n) same m.0) in
       let read = ap (unboxed (known_boxes) its) pic ∙ unboxed_root (known_boxes) its (block_of n o (mem n v.log)) (inner n (suc q) (mem n v.log)) (suc q) some_block in
@@ -433,6 +451,7 @@ module _ (v : View) (o t : ℕ) (write : WholeWrite) (begin : MayBegin v o) (may
       × (past log ≡ past v.log)
       × (has_emptied o log ≡ true → may_empty write.call ≡ true)
       × FewReferences n o log
+      × ((b : ℕ) → place_use b log ≡ place_use b v.log)
 
   -- the references that it has to spare are still there after the put of the root, and the boxes are as they were
   spared : (r : Option ℕ) (start b : ℕ) → spare_references v r b ≤ references_held n b (log_of_root o old r (l1 start))
@@ -455,7 +474,7 @@ module _ (v : View) (o t : ℕ) (write : WholeWrite) (begin : MayBegin v o) (may
       let boxes = boxes_rooted write.root start may.boxes in
       let puts = puts_possible v begin.live o t begin.low write.early l2 (with_root_put v o write.root) (known_state o v).content false (spare_references v write.root) r.0 mine r.3 r.4 r.8 r.1 content may.early spare boxes in
       let same = puts_alike o t write.early l2 in
-      (puts.0, puts.1, (λ q. same.0 q ∙ r.2 q), same.1 o ∙ r.3, same.4 ∙ r.5, same.5 ∙ r.6, (λ e. r.7 (sym (same.3 o) ∙ e)), puts.2)
+      (puts.0, puts.1, (λ q. same.0 q ∙ r.2 q), same.1 o ∙ r.3, same.4 ∙ r.5, same.5 ∙ r.6, (λ e. r.7 (sym (same.3 o) ∙ e)), puts.2, (λ b. uses_put o t write.early l2 b ∙ uses_rooted o old write.root (l1 start) b))
 
   -- the writes of a trace in which the pass is so far agree with what it knew
   agreeing : (log : List Act) → Ready log → Sure (with_log v log) (λ es. AgreesWith v (stored_newest n.starts (history es)))
@@ -488,6 +507,7 @@ module _ (v : View) (o t : ℕ) (write : WholeWrite) (begin : MayBegin v o) (may
         c.declared,
         may.fits,
         (λ p e. r.2 p ∙ may.locks p e),
+        ((λ b taken. absurd (begin.stored b (sym (r.8 b) ∙ taken))), (λ b c taken. absurd (begin.stored b (sym (r.8 b) ∙ taken)))),
       )
 
   -- the rest, from the commit on

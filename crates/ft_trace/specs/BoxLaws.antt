@@ -1,20 +1,21 @@
 -- What holds of boxes in every valid trace.
-use Rattle.std.specs.Prelude.{◌≡◌, ◌≢◌, ◌⊎◌, ℕ, suc, ◌+◌, ◌%◌, ◌^◌, ◌<◌, ◌≤◌, true, List, ◌∷◌, ◌++◌}
+use Rattle.std.specs.Prelude.{◌≡◌, ◌≢◌, ◌⊎◌, ℕ, suc, ◌+◌, ◌%◌, ◌^◌, ◌<◌, ◌≤◌, false, true, List, ◌∷◌, ◌++◌}
 use mathlib.Core.Option.{some}
 use lib.ListN.{get_elem?}
 use Rattle.ft_trace.specs.declared.Shape.{Shape}
 use Rattle.ft_trace.specs.declared.View.{View}
 use Rattle.ft_trace.specs.declared.Act.{Act}
 use Rattle.ft_trace.specs.declared.Act.TheVariants.{RaiseShared}
-use Rattle.ft_trace.specs.Addresses.{box_word, version_of, class_of, container_count, IsBoxName}
+use Rattle.ft_trace.specs.Addresses.{box_word, maker_of, version_of, class_of, container_count, IsBoxName}
 use Rattle.ft_trace.specs.Acts.{has_lock, is_writing, mem}
 use Rattle.ft_trace.specs.ContainerStates.{kind_in}
 use Rattle.ft_trace.specs.Pictures.{picture, root_of, inner}
 use Rattle.ft_trace.specs.Kinds.{rows}
 use Rattle.ft_trace.specs.Entries.{total}
-use Rattle.ft_trace.specs.Boxes.{row_kind, row_payload, made_state, known_box_word, state_default, state_making, state_merged, state_none}
-use Rattle.ft_trace.specs.BoxTraces.{box_state, shared_count, maker_part, place_to_give_by, references, place_bit, default_word_of, merged_word_of, shared_zero}
+use Rattle.ft_trace.specs.Boxes.{row_kind, row_payload, made_state, place_use, references_held, use_taken, known_box_word, state_default, state_making, state_merged, state_none}
+use Rattle.ft_trace.specs.BoxTraces.{box_state, was_stored, shared_count, maker_part, place_to_give_by, references, place_bit, default_word_of, merged_word_of, shared_zero}
 use Rattle.ft_trace.specs.HeldBoxes.{HeldSince, SameValue}
+use Rattle.ft_trace.specs.SeenBoxes.{SawBox}
 use Rattle.ft_trace.specs.Unboxed.{unboxed, unboxed_picture}
 use Rattle.ft_trace.specs.Traces.{Event, did, run, word, history, StandsFor, Valid}
 use Rattle.ft_layout.specs.Starts.{kind_word, local_word, payload_word, shared_word}
@@ -51,6 +52,29 @@ PlacesAreGivenBackOnce =
     × (box_state b es ≢ state_none → place_bit k b es ≡ 0)
     × (box_state b es ≡ state_merged → references k b es ≡ 0 → total (place_to_give_by b) (run k es).views ≡ 1)
     × (references k b es ≢ 0 → total (place_to_give_by b) (run k es).views ≡ 0)
+
+-- A place that isn't free is one in which a write of its maker has put a value, now or before; or the maker has taken it
+-- and has neither given it back nor stored it by a write.
+abbrev pub PlacesInUseWereStored : Type 0
+PlacesInUseWereStored =
+    (k : Shape) (b : ℕ) (es : List Event) → Valid k es → IsBoxName k b → place_bit k b es ≡ 0
+    → (was_stored b es ≡ true)
+    ⊎ ((j : ℕ) × (u : View) × (get_elem? (run k es).views j ≡ some u) × (u.number ≡ suc (maker_of b))
+    × (place_use b u.log ≡ use_taken))
+
+-- a box whose name was read in a container was stored by a write of its maker
+abbrev pub SeenBoxesWereStored : Type 0
+SeenBoxesWereStored =
+    (k : Shape) (b : ℕ) (es : List Event) → Valid k es → (j : ℕ) (u : View) → get_elem? (run k es).views j ≡ some u
+    → SawBox k b u.log → was_stored b es ≡ true
+
+-- A box that no write of its maker has stored is its maker's alone: where that one holds no reference for it and doesn't
+-- write a container that names it, there is none.
+abbrev pub TakenPlacesAreTheMakers : Type 0
+TakenPlacesAreTheMakers =
+    (k : Shape) (b : ℕ) (es : List Event) → Valid k es → (j : ℕ) (u : View) → get_elem? (run k es).views j ≡ some u
+    → place_use b u.log ≡ use_taken → ((o : ℕ) → is_writing o u.log ≡ false) → references_held k b u.log ≡ 0
+    → references k b es ≡ 0
 
 -- a raise of the shared count that succeeds is one of a box that is in the default state or has references
 abbrev pub RaisesAreOfLiveBoxes : Type 0

@@ -1,5 +1,5 @@
 -- What a trace says of each box: its state, its shared count, and how its counts go with its references.
-use Rattle.std.specs.Prelude.{◌≡◌, ◌≢◌, ℕ, ◌+◌, ◌-◌, ◌*◌, ◌/◌, ◌%◌, ◌^◌, ◌<◌, ◌≤◌, ◌==◌, cond, List, [], ◌∷◌}
+use Rattle.std.specs.Prelude.{◌≡◌, ◌≢◌, ℕ, ◌+◌, ◌-◌, ◌*◌, ◌/◌, ◌%◌, ◌^◌, ◌<◌, ◌≤◌, ◌==◌, Bool, true, false, cond, List, [], ◌∷◌}
 use Rattle.ft_trace.specs.declared.Shape.{Shape}
 use Rattle.ft_trace.specs.declared.View.{View}
 use Rattle.ft_trace.specs.declared.Act.{Act}
@@ -8,7 +8,7 @@ use Rattle.ft_trace.specs.Bits.{bit}
 use Rattle.ft_layout.specs.Starts.{shared_word}
 use Rattle.ft_trace.specs.Addresses.{heap_bits, box_word, maker_of, place_word_of, place_bit_of, IsBoxName}
 use Rattle.ft_trace.specs.Entries.{total}
-use Rattle.ft_trace.specs.Boxes.{state_none, state_making, state_default, state_merged, made_state, local_count, taken_out, place_to_give, references_held, named_in_all}
+use Rattle.ft_trace.specs.Boxes.{state_none, state_making, state_default, state_merged, made_state, local_count, taken_out, place_to_give, references_held, named_in_all, place_use, use_stored}
 use Rattle.ft_trace.specs.Traces.{Event, did, forked, joined, sent, run, word}
 use Rattle.ft_trace.specs.BoxWords.{count_unit, dead_word, merged_bits}
 
@@ -46,6 +46,14 @@ shared_count b (did id v a ∷ es) = shared_count_next b a (shared_count b es)
 shared_count b (forked id v ∷ es) = shared_count b es
 shared_count b (joined id v other w ∷ es) = shared_count b es
 shared_count b (sent id v given ∷ es) = shared_count b es
+
+-- a write of its maker has put a value there, now or before
+abbrev pub was_stored : ℕ → List Event → Bool
+was_stored b [] = false
+was_stored b (did id v a ∷ es) = cond (place_use b (a ∷ v.log) == use_stored) true (was_stored b es)
+was_stored b (forked id v ∷ es) = was_stored b es
+was_stored b (joined id v other w ∷ es) = was_stored b es
+was_stored b (sent id v given ∷ es) = was_stored b es
 
 -- ---- what is added up over all views
 

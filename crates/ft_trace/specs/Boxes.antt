@@ -2,17 +2,20 @@
 -- counts, one that its maker alone writes and one that all passes share; what they add up to is how many references
 -- there are. (PEP 703, "Biased Reference Counting"; the rest is of the profile)
 use Rattle.std.specs.Prelude.{◌≡◌, ◌≢◌, ◌⊎◌, ℕ, zero, suc, ◌+◌, ◌-◌, ◌%◌, ◌^◌, ◌<◌, ◌≤◌, ◌==◌, Bool, true, false, cond, List, [], ◌∷◌, slice_index}
+use Rattle.ft_model.specs.declared.call.Call.{Call}
+use Rattle.ft_model.specs.declared.content.Content.{Content}
 use Rattle.ft_model.specs.declared.script.Kind.{Kind}
 use Rattle.ft_model.specs.declared.script.Kind.TheVariants as kind
+use Rattle.ft_model.specs.Boxings.{boxes}
 use Rattle.ft_trace.specs.declared.Act.{Act}
-use Rattle.ft_trace.specs.declared.Act.TheVariants.{Lock, TakeTable, PutTable, PutRoot, TakePlace, PutBox, PublishBox, ReadBox, RaiseLocal, DropLocal, ClearLocal, MergeCounts, RaiseShared, RaiseKept, DropShared, GivePlace}
+use Rattle.ft_trace.specs.declared.Act.TheVariants.{Lock, TakeTable, PutTable, PutRoot, Commit, TakePlace, PutBox, PublishBox, ReadBox, RaiseLocal, DropLocal, ClearLocal, MergeCounts, RaiseShared, RaiseKept, DropShared, GivePlace}
 use Rattle.ft_trace.specs.declared.Shape.{Shape}
 use Rattle.ft_trace.specs.Bits.{bit}
 use Rattle.ft_layout.specs.Starts.{kind_word, payload_word, local_word}
 use Rattle.ft_trace.specs.BoxWords.{box_kind, dead_word, lowered_word, IsBoxedValue}
 use Rattle.ft_trace.specs.Addresses.{slots, class_of, container_count, place_bit_of, box_word, at}
 use Rattle.ft_trace.specs.Acts.{has_lock, mem}
-use Rattle.ft_trace.specs.ContainerStates.{kind_in}
+use Rattle.ft_trace.specs.ContainerStates.{kind_in, changes}
 use Rattle.ft_trace.specs.Pictures.{entry_offset, item_offset, root_of, inner}
 use Rattle.ft_trace.specs.Kinds.{rows}
 use Rattle.ft_trace.specs.Sums.{sum_to}
@@ -120,6 +123,29 @@ abbrev pub place_to_give : ℕ → List Act → ℕ
 place_to_give b [] = 0
 place_to_give b (a ∷ l) = place_to_give_next b a (place_to_give b l)
 
+-- What a pass has done with the place of a box in its own heap: nothing that lasts; it has taken the place, and no write
+-- of its has put a value there, now or before; or a write of its has. A place in which no write has put a value is like
+-- new once it is given back.
+abbrev pub use_none : ℕ
+use_none = 0
+
+abbrev pub use_taken : ℕ
+use_taken = 1
+
+abbrev pub use_stored : ℕ
+use_stored = 2
+
+abbrev pub place_use_next : ℕ → Act → ℕ → ℕ
+place_use_next b (TakePlace c f) n =
+    cond (c == b) (cond (bit (place_bit_of c) f == 1) (cond (n == use_stored) use_stored use_taken) n) n
+place_use_next b (Commit c r f s) n = cond (n == use_taken) use_stored n
+place_use_next b (GivePlace c) n = cond (c == b) (cond (n == use_taken) use_none n) n
+place_use_next b act n = n
+
+abbrev pub place_use : ℕ → List Act → ℕ
+place_use b [] = use_none
+place_use b (a ∷ l) = place_use_next b a (place_use b l)
+
 -- ---- the references that a pass holds for a box
 
 -- A put into a table that a root names, or of a root, gives the pass the references of what the container's words named
@@ -200,8 +226,33 @@ KeepsBox k b l =
     (0 < references_held k b l)
     ⊎ ((o : ℕ) × (o < container_count k) × (has_lock o l ≡ true) × (0 < named_in_container k b o (mem k l)))
 
--- the pass holds no reference, makes no box, has merged each box that it made, and has no place to give back
-abbrev pub IsDoneWithBoxes : Shape → List Act → Type 0
-IsDoneWithBoxes k l =
-    (b : ℕ) → (references_held k b l ≡ 0) × (made_state b l ≢ state_making) × (made_state b l ≢ state_default)
-    × (place_to_give b l ≡ 0)
+-- A root may be put only to a table that names no box which no write of the pass has stored yet.
+abbrev pub NamesStored : Shape → List Act → Act → ℕ → Type 0
+NamesStored k l a o = (b : ℕ) → place_use b l ≡ use_taken → named_in_container k b o (mem k (a ∷ l)) ≡ 0
+
+-- A box that no write of the pass has stored yet is stored by this call: a value of the container that it changes names
+-- the box, the call puts a value in a box, and there is no other such box.
+abbrev pub StoresTaken : Shape → List Content → List Act → Call → Type 0
+StoresTaken k world l call =
+    ((b : ℕ) → place_use b l ≡ use_taken
+    → (named_in_container k b (changes call) (mem k l) ≢ 0) × (boxes world call ≡ true))
+    × ((b c : ℕ) → place_use b l ≡ use_taken → place_use c l ≡ use_taken → b ≡ c)
+
+-- What a pass has to do with its own boxes between two calls: it is in the midst of making none and of merging none, and
+-- has no place to give back; each box that it has in the default state has a local count above 0, since a box is merged
+-- as soon as that falls to 0. (PEP 703, "Biased Reference Counting"; the profile)
+pub record IsSettled (l : List Act) : Type 0 where
+  pub unmade : (b : ℕ) → made_state b l ≢ state_making
+  pub counted : (b : ℕ) → made_state b l ≡ state_default → 0 < local_count b l
+  pub whole : (b : ℕ) → made_state b l ≡ state_default → taken_out b l ≡ 0
+  pub given : (b : ℕ) → place_to_give b l ≡ 0
+
+-- Besides, it holds no reference, and each box that it made was stored by a write, or its place given back.
+pub record IsDoneWithBoxes (k : Shape) (l : List Act) : Type 0 where
+  pub settled : IsSettled l
+  pub none : (b : ℕ) → references_held k b l ≡ 0
+  pub stored : (b : ℕ) → place_use b l ≢ use_taken
+
+-- it has merged each box that it made
+abbrev pub HasMergedBoxes : List Act → Type 0
+HasMergedBoxes l = (b : ℕ) → made_state b l ≢ state_default

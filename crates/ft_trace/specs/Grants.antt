@@ -1,5 +1,5 @@
 -- What a pass may do next, and go on to do: conditions that callers can meet.
-use Rattle.std.specs.Prelude.{◌≡◌, ℕ, suc, ◌*◌, ◌^◌, ◌<◌, true, false, List}
+use Rattle.std.specs.Prelude.{◌≡◌, ◌≢◌, ℕ, suc, ◌*◌, ◌^◌, ◌<◌, true, false, List}
 use Rattle.ft_model.specs.declared.call.Call.TheVariants as call
 use Rattle.ft_model.specs.declared.call.ListCall.TheVariants as list
 use Rattle.ft_model.specs.declared.content.Content.TheVariants as content
@@ -12,11 +12,11 @@ use Rattle.ft_trace.specs.Addresses.{container_count, IsTableName}
 use Rattle.ft_trace.specs.Acts.{has_lock, is_writing, used, owes, flight, stage, view_after}
 use Rattle.ft_trace.specs.Pictures.{root_in}
 use Rattle.ft_trace.specs.Holds.{held_words, known_state}
-use Rattle.ft_trace.specs.Boxes.{references_held}
+use Rattle.ft_trace.specs.Boxes.{references_held, place_use, use_taken}
 use Rattle.ft_trace.specs.Traces.{IsReachable, IsAwake}
 
 -- a pass that has the lock of o may begin to write it: it writes nothing, is in the midst of nothing, has a call left,
--- holds few references, and the bank's calls are few enough for its words
+-- holds few references, each box that it made was stored by a write, and the bank's calls are few enough for its words
 pub record MayWrite (v : View) (o : ℕ) : Type 0 where
   pub live : IsAwake v
   pub possible : IsReachable v
@@ -28,6 +28,7 @@ pub record MayWrite (v : View) (o : ℕ) : Type 0 where
   pub none : owes v.log ≡ 0
   pub room : 0 < v.left
   pub few_references : (b : ℕ) → references_held v.shape b v.log < 2 ^ 31
+  pub stored : (b : ℕ) → place_use b v.log ≢ use_taken
 
 -- what a pass knows that then cleared a list: numbers that it found, and what stood in the bank at its commit
 abbrev pub after_clear : View → ℕ → ℕ → ℕ → Snap → ℕ → View

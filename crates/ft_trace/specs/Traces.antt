@@ -26,7 +26,8 @@ use Rattle.ft_trace.specs.Pictures.{table_words, root_of, Represents}
 use Rattle.ft_trace.specs.Kinds.{rows, version_at, SoundAs, CarefulAs, ClearAs, HasVersions}
 use Rattle.ft_trace.specs.OddVersions.{Shut, Timely, Low}
 use Rattle.ft_trace.specs.Unboxed.{unboxed_words, unboxed_picture}
-use Rattle.ft_trace.specs.Boxes.{made_state, local_count, taken_out, place_to_give, references_held, HasPutValue, HasReferences, KeepsBox, IsDoneWithBoxes, state_default, state_making}
+use Rattle.ft_trace.specs.Boxes.{made_state, local_count, taken_out, place_to_give, references_held, HasPutValue, HasReferences, KeepsBox, NamesStored, StoresTaken, IsDoneWithBoxes, HasMergedBoxes, state_default, state_making}
+use Rattle.ft_trace.specs.SeenBoxes.{SawBox}
 use Rattle.ft_trace.specs.FitCalls.{FitsCall}
 use Rattle.ft_trace.specs.Causes.{Loaded, HasCause}
 use Rattle.ft_trace.specs.Hands.{cursor_in, MovesCursor}
@@ -148,6 +149,7 @@ May k m cs v (PutRoot o r old) =
     × (r ≡ 0 → has_committed o v.log ≡ false)
     × HasReferences k v.log (PutRoot o r old) o
     × ((t : ℕ) → r ≡ suc t → has_committed o v.log ≡ true → ShutFor k m.words o t)
+    × NamesStored k v.log (PutRoot o r old) o
 -- a word of the table that the root names, put with care; a version is made odd before the commit, and even after it
 May k m cs v (PutTable o t i x) =
     (o < container_count k)
@@ -186,6 +188,7 @@ May k m cs v (Commit c r f s) =
     × IsDeclared (stored_newest k.starts cs).world no_hands c
     × FitsCall c
     × HasLocksOf c v.log
+    × StoresTaken k (stored_newest k.starts cs).world v.log c
 -- It has made the version odd and has committed since. The words stand for the content at the counter, with its class
 -- and fill, and no version of an entry or item of the container is odd.
 May k m cs v (StopWrite o f) =
@@ -254,10 +257,11 @@ May k m cs v (TakeFloor f s) = (v.tokens ≡ k.passes) × (s ≡ snap m cs)
 -- a word of bits of a heap, and a word of a box
 May k m cs v (ReadFreePlaces q w f) = (q < k.passes) × (w < k.heap / 64)
 May k m cs v (ReadBox b i f) = IsBoxName k b × (i < box_size)
--- a place of its own heap, where it keeps no box that wasn't merged
+-- a place of its own heap, where it keeps no box that wasn't merged, while it writes no container
 May k m cs v (TakePlace b f) =
     IsBoxName k b × (v.number ≡ suc (maker_of b)) × (made_state b v.log ≢ state_making)
     × (made_state b v.log ≢ state_default)
+    × ((o : ℕ) → is_writing o v.log ≡ false)
 -- a box that it is making
 May k m cs v (PutBox b i x) = IsBoxName k b × (i < box_size) × (made_state b v.log ≡ state_making) × (i ≢ shared_word)
 -- with local count 1, once it has put a value there
@@ -279,10 +283,11 @@ May k m cs v (ClearLocal b) = IsBoxName k b × (made_state b v.log ≡ state_def
 May k m cs v (MergeCounts b d f) =
     IsBoxName k b × (made_state b v.log ≡ state_default) × (local_count b v.log ≡ 0)
     × (d ≡ count_unit * taken_out b v.log + merged_bits)
--- any other box, from a word that isn't that of a dead one
+-- any other box, whose name it has read in a container, from a word that isn't that of a dead one
 May k m cs v (RaiseShared b old f) =
     IsBoxName k b × (made_state b v.log ≢ state_default) × (old ≢ dead_word) × (old < 2 ^ 64)
     × (references_held k b v.log + 1 < 2 ^ 32)
+    × SawBox k b v.log
 -- one that a container names whose lock it has, or for which it holds a reference
 May k m cs v (RaiseKept b f) =
     IsBoxName k b × (made_state b v.log ≢ state_default) × KeepsBox k b v.log × (references_held k b v.log + 1 < 2 ^ 32)
@@ -311,6 +316,7 @@ IsFree v =
     × (owes v.log ≡ 0)
     × (announces v.log ≡ 0)
     × IsDoneWithBoxes v.shape v.log
+    × HasMergedBoxes v.log
 
 -- the pass writes no container, has no fresh table in hand, and is in the midst of no taking or giving
 abbrev pub IsQuiet : View → Type 0

@@ -26,7 +26,7 @@ use Rattle.ft_trace.specs.OddVersions.{Shut, Timely}
 use Rattle.ft_trace.specs.Holds.{held_words, held_unboxed, known_state, hand_unboxed, AgreesWith}
 use Rattle.ft_trace.specs.BoxWords.{box_kind}
 use Rattle.ft_layout.specs.Starts.{kind_word, payload_word}
-use Rattle.ft_trace.specs.Boxes.{value_at, known_box_word, knows_box_word, references_held, HasReferences}
+use Rattle.ft_trace.specs.Boxes.{value_at, known_box_word, knows_box_word, place_use, references_held, use_taken, HasReferences}
 use Rattle.ft_trace.specs.Unboxed.{unboxed_table}
 use Rattle.ft_trace.specs.Traces.{IsReachable, IsAwake}
 
@@ -190,7 +190,8 @@ after_write_of v o t write start number s stop =
 -- ---- which may be made
 
 -- a pass that has the lock of o may begin to write it: it writes nothing, has a call left, has taken no table out of a
--- root since its last commit, holds few references, and the bank's calls are few enough for its words
+-- root since its last commit, holds few references, each box that it made was stored by a write, and the bank's calls
+-- are few enough for its words
 pub record MayBegin (v : View) (o : ℕ) : Type 0 where
   pub live : IsAwake v
   pub possible : IsReachable v
@@ -201,6 +202,7 @@ pub record MayBegin (v : View) (o : ℕ) : Type 0 where
   pub spare : used v.log ≡ false
   pub room : 0 < v.left
   pub few_references : (b : ℕ) → references_held v.shape b v.log < 2 ^ 31
+  pub stored : (b : ℕ) → place_use b v.log ≢ use_taken
 
 -- A root may be put that is 0, for a call that takes away what there is; or one that names a table which is fresh in
 -- the pass's hand, as it must be for readers, with versions that were made odd once at most, and with the references

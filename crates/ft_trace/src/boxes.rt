@@ -1,6 +1,6 @@
 //! What holds of boxes in every valid trace, and which steps with boxes may be taken. A box has two counts:
 //! its maker writes one alone, all passes share the other.
-ghost use Rattle.ft_trace.specs.BoxLaws.{ReferencesAreCounted, DeadBoxesHaveNoReference, PlacesAreGivenBackOnce, RaisesAreOfLiveBoxes, LocalCountsAreTheMakers, ReferencedValuesStay, HeldValuesStay, BoxesHaveValues, OthersLeaveWhatIsRead, WordsStandThroughBoxes, HoldersKnowWhatIsRead, QuietBoxesStay};
+ghost use Rattle.ft_trace.specs.BoxLaws.{ReferencesAreCounted, DeadBoxesHaveNoReference, PlacesAreGivenBackOnce, PlacesInUseWereStored, SeenBoxesWereStored, TakenPlacesAreTheMakers, RaisesAreOfLiveBoxes, LocalCountsAreTheMakers, ReferencedValuesStay, HeldValuesStay, BoxesHaveValues, OthersLeaveWhatIsRead, WordsStandThroughBoxes, HoldersKnowWhatIsRead, QuietBoxesStay};
 ghost use Rattle.ft_trace.specs.HeapPlaces.{FullWordsHaveNoFreePlace, OwnFreePlacesStay};
 ghost use Rattle.ft_trace.specs.QuietEntries.{QuietEntriesKeepBoxes};
 ghost use Rattle.ft_trace.specs.HeldReads.{HeldHitsAreRight, HeldItemsAreRight};
@@ -24,6 +24,23 @@ pub fn dead_boxes_have_no_reference()
 /// the place is given back once.
 pub fn places_are_given_back_once()
     ensures { PlacesAreGivenBackOnce }
+{}
+
+/// A place that isn't free is one in which a write of its maker has put a value, or its maker has taken it and has
+/// neither given it back nor stored it by a write.
+pub fn places_in_use_were_stored()
+    ensures { PlacesInUseWereStored }
+{}
+
+/// A box whose name was read in a container, between two equal even loads of a version, was stored by a write of its
+/// maker.
+pub fn seen_boxes_were_stored()
+    ensures { SeenBoxesWereStored }
+{}
+
+/// A box that no write has stored has no reference once its maker holds none.
+pub fn taken_places_are_the_makers()
+    ensures { TakenPlacesAreTheMakers }
 {}
 
 /// A raise of the shared count never succeeds on a dead box.

@@ -1,5 +1,5 @@
 -- A clear of a dict or a set: that it may be committed, and what the container and its words are then.
-use Rattle.std.proofs.Common.{◌≡◌, ◌≢◌, ℕ, suc, ◌%◌, ◌<◌, ◌≤◌, true, false, true≢false, List, [], ◌∷◌, length, Option, Some, None, refl, sym, ap, ◌∙◌, subst, arith, length-set, get_or-set_same, get_or-set_other}
+use Rattle.std.proofs.Common.{◌≡◌, ◌≢◌, ℕ, suc, ◌+◌, ◌%◌, ◌<◌, ◌≤◌, true, false, true≢false, List, [], ◌∷◌, length, Option, Some, None, refl, sym, ap, ◌∙◌, subst, arith, length-set, get_or-set_same, get_or-set_other}
 use Rattle.std.specs.Prelude.{◌==◌, IfNone, IfSome, cond, is_some, filter, map, slice_index, slice_set}
 use Rattle.std.proofs.lemmas.List.Elements.{All-nil}
 use Rattle.std.proofs.Math.Logic.{∥∥₁_elim}
@@ -22,7 +22,7 @@ use Rattle.ft_trace.specs.declared.Snap.{Snap}
 use Rattle.ft_trace.specs.declared.View.{View}
 use Rattle.ft_trace.specs.Acts.{has_lock, is_writing, owes, view_after, seen_writes, stage, stage_next, used}
 use Rattle.ft_trace.specs.Addresses.{container_count, class_of, IsTableName}
-use Rattle.ft_trace.specs.Boxes.{references_held, IsDoneWithBoxes}
+use Rattle.ft_trace.specs.Boxes.{named_in_root, place_use, references_held, use_taken, IsDoneWithBoxes, IsSettled}
 use Rattle.ft_trace.specs.Holds.{held_words, held_unboxed, in_hand, known_state}
 use Rattle.ft_trace.specs.Kinds.{IsKeyed, version_at}
 use Rattle.ft_trace.specs.Traces.{IsReachable}
@@ -32,15 +32,15 @@ use Rattle.ft_trace.proofs.Cases.{hit, miss}
 use Rattle.ft_trace.proofs.Clearing.{held_shut}
 use Rattle.ft_bank.specs.declared.table.Table.{Table}
 use Rattle.ft_bank.specs.TableNames.{table_id, root_for}
-use Rattle.ft_bank.specs.SameBoxes.{MovesReferences, SameMade, SameReferences, named_in_words}
+use Rattle.ft_bank.specs.SameBoxes.{MovesReferences, SameReferences, StaysSettled, named_in_words}
 use Rattle.ft_bank.specs.Whole.{EndsWrite, OnlyBoxed, OnlyPut, OnlyWritten, Wrote}
 use Rattle.ft_bank.specs.WriteSteps.{Committed, IsShut, KeepsUnwritten, MayCommit, MayHave, MayPutRoot, with_block, with_unboxed_root}
 use Rattle.ft_bank.proofs.DoneBoxes.{none_named, same_named}
 use Rattle.ft_bank.proofs.KnownAfterWrites.{boxed_written, put_same, put_written, work_knows, write_ends, written_then}
 use Rattle.ft_bank.proofs.TableAddresses.{named}
 use Rattle.ft_bank.proofs.WordsPut.{taken_words}
-use Rattle.ft_table_calls.specs.Dropping.{HoldsNamed, SharesBoxes}
-use Rattle.ft_table_calls.proofs.Dropped.{holds_named, shares_done}
+use Rattle.ft_table_calls.specs.Dropping.{HoldsNamed}
+use Rattle.ft_table_calls.proofs.Dropped.{dropped_named, holds_named}
 use Rattle.ft_table_calls.proofs.Rooting.{rooted_write}
 use Rattle.ft_search.specs.OneEntryWrites.{HasTable, Leaves, MayWriteEntries}
 use Rattle.ft_search.proofs.Calling.{plain_replied}
@@ -141,9 +141,10 @@ may_put_none k o v s f shape possible may free is =
       spare = λ some_one. free;
       early = λ e. hit o false _;
       references = record {
-        few = few_done k (view_after (StartWrite o f) v) shape (λ b. let d = may.boxes b in (d.0, d.1, d.2, d.3));
+        few = few_done k v shape may.boxes;
         enough = λ b. omega arith;
         known = λ b none some_one. absurd (some_one refl);
+        stored = λ b taken. refl;
       };
     })
 
@@ -168,9 +169,6 @@ module _ (k : Shape) (o : ℕ) (table : Table) (f : ℕ) (v s r : View) (shape :
   names_table : root_in (held_words o s) ≡ suc t
   names_table = ap (λ (z : View). root_in (held_words o z)) started ∙ table_is.root
 
-  done_started : IsDoneWithBoxes k s.log
-  done_started = subst (λ (z : View). IsDoneWithBoxes k z.log) (sym started) (λ b. let d = may.boxes b in (d.0, d.1, d.2, d.3))
-
   -- the table is the pass's, to be retired
   pub table_out : stage t r.log ≡ 3
   table_out =
@@ -179,16 +177,30 @@ module _ (k : Shape) (o : ℕ) (table : Table) (f : ℕ) (v s r : View) (shape :
       ∙ (ap (λ (root : ℕ). stage_next t (PutRoot o 0 root) n) names_table
       ∙ (miss 0 (suc t) 0 (cond (suc t == suc t) 3 n) (λ e. absurd (omega (arith, e))) ∙ hit (suc t) 3 n))
 
-  pub table_named_held : HoldsNamed k o t r
-  table_named_held =
+  in_hand_then : in_hand t r ≡ (held_words o s).table
+  in_hand_then =
       let low = subst (λ (z : Shape). o < container_count z) (sym shape_started) may.container in
       let name = subst (λ (z : Shape). IsTableName z t) (sym shape_started) (named k table table_is.table_in) in
-      holds_named k o t s r shape_started shape_rooted done_started moves names_table
-      (ap (in_hand t) rooted ∙ taken_words s o t 0 (root_in (held_words o s)) low name names_table)
-      (λ b. none_named b (kind_in r.shape.starts o) (held_words o r) bare)
+      ap (in_hand t) rooted ∙ taken_words s o t 0 (root_in (held_words o s)) low name names_table
 
-  pub table_shared : SharesBoxes r
-  table_shared = shares_done k s r done_started (subst (SameMade s) (sym rooted) (record { state = λ b. refl; local = λ b. refl; taken = λ b. refl; places = λ b. refl }))
+  no_box : (b : ℕ) → named_in_words b (kind_in r.shape.starts o) (held_words o r) ≡ 0
+  no_box b = none_named b (kind_in r.shape.starts o) (held_words o r) bare
+
+  pub table_named_held : HoldsNamed k o t r
+  table_named_held = holds_named k o t s r shape_started shape_rooted moves names_table in_hand_then no_box
+
+  pub table_settled : IsSettled r.log
+  table_settled =
+      let x = may.boxes.settled in
+      subst (λ (z : View). IsSettled z.log) (sym (rooted ∙ ap (λ (z : View). view_after (PutRoot o 0 (root_in (held_words o z))) z) started))
+      (record { unmade = x.unmade; counted = x.counted; whole = x.whole; given = x.given })
+
+  -- once they are dropped it holds none
+  pub table_dropped : (d : View) → d.shape ≡ r.shape → ((b : ℕ) → references_held k b d.log + named_in_root b (kind_in k.starts o) (suc t) (in_hand t r) ≡ references_held k b r.log) → (b : ℕ) → references_held k b d.log ≡ 0
+  table_dropped d same dropped b =
+      ap (λ (z : Shape). references_held z b d.log) (sym (same ∙ (shape_rooted ∙ shape_started)))
+      ∙ (dropped_named k o t s r d shape_started shape_rooted same moves names_table in_hand_then no_box dropped b
+      ∙ (ap (λ (z : Shape). references_held z b s.log) shape_started ∙ (ap (λ (z : View). references_held k b z.log) started ∙ may.boxes.none b)))
 
 -- ---- the whole write of a dict or a set that has a table
 
@@ -207,8 +219,8 @@ pub record Emptying (k : Shape) (o : ℕ) (table : Table) (called : Call) (f : �
   pub keeps : KeepsUnwritten s r
   pub moves : MovesReferences o s r
   pub drops : OnlyBoxed r d
-  pub made : SameMade r d
-  pub none : (b : ℕ) → references_held k b d.log ≡ 0
+  pub made : StaysSettled r d
+  pub dropped : (b : ℕ) → references_held k b d.log + named_in_root b (kind_in k.starts o) (suc (table_id table)) (in_hand (table_id table) r) ≡ references_held k b r.log
   pub puts : OnlyPut o d u
   pub words : held_unboxed o u ≡ with_block (with_block (held_unboxed o d) 1 0) 2 0
 
@@ -219,11 +231,18 @@ module _ (k : Shape) (o : ℕ) (table : Table) (called : Call) (f : ℕ) (v s r 
   shape_bare : r.shape ≡ v.shape
   shape_bare = ap (λ (z : View). z.shape) both_rooted
 
+  rooted_words : root_in (held_words o r) ≡ 0
+  rooted_words = rooted_bare k o f v s r e.may e.started e.root_held
+
+  -- the pass holds no references once they are dropped
+  none_held : (b : ℕ) → references_held k b d.log ≡ 0
+  none_held = table_dropped k o table f v s r e.shape e.may e.table_is e.started e.rooted e.moves rooted_words d e.drops.work.pass.shape e.dropped
+
   -- what the pass did since the root was put
   written : OnlyWritten o r u
   written =
       written_then o r d u
-      (boxed_written o r d e.drops e.made (λ b. let none = ap (λ (z : Shape). references_held z b d.log) (e.drops.work.pass.shape ∙ (shape_bare ∙ e.shape)) ∙ e.none b in omega (arith, none)))
+      (boxed_written o r d e.drops e.made (λ b. let none = ap (λ (z : Shape). references_held z b d.log) (e.drops.work.pass.shape ∙ (shape_bare ∙ e.shape)) ∙ none_held b in omega (arith, none)))
       (put_written o d u e.puts)
 
   known_then : (p : ℕ) → known_state p u ≡ known_state p v
@@ -267,6 +286,10 @@ module _ (k : Shape) (o : ℕ) (table : Table) (called : Call) (f : ℕ) (v s r 
     words = has.words;
   }
 
+  -- the pass has taken no place for a box that no write has stored
+  untaken : (b : ℕ) → place_use b u.log ≢ use_taken
+  untaken b x = e.may.boxes.stored b (ap (λ (z : View). place_use b z.log) (sym both_rooted) ∙ written.made.places b x)
+
   pub emptying_commits : MayCommit u called reply.Done
   emptying_commits =
       let l = e.leaves in
@@ -287,6 +310,7 @@ module _ (k : Shape) (o : ℕ) (table : Table) (called : Call) (f : ℕ) (v s r 
         clear = λ stored t has names. absurd (omega (arith, bare, names));
         takes = λ stored class has x. absurd (omega (arith, x, owed));
         empties = λ x. e.empties;
+        stores = λ stored has. ((λ b x. absurd (untaken b x)), (λ b c x other. absurd (untaken b x)));
       }
 
   -- after the commit
@@ -344,10 +368,10 @@ module _ (k : Shape) (o : ℕ) (table : Table) (called : Call) (f : ℕ) (v s r 
       -- the pass holds no references, as before
       pub emptying_references : SameReferences v w
       emptying_references =
-          let bare_d : root_in (held_words o d) ≡ 0 = ap root_in drops_read ∙ rooted_bare k o f v s r e.may e.started e.root_held in
+          let bare_d : root_in (held_words o d) ≡ 0 = ap root_in drops_read ∙ rooted_words in
           let shape_d = e.drops.work.pass.shape ∙ (shape_bare ∙ e.shape) in
           let before : IsDoneWithBoxes v.shape v.log = subst (λ (z : Shape). IsDoneWithBoxes z v.log) (sym e.shape) e.may.boxes in
-          let no_box : (x : View) → root_in (held_words o x) ≡ 0 → (b : ℕ) → named_in_words b (kind_in x.shape.starts o) (held_words o x) ≡ 0 = λ x none b. none_named b (kind_in x.shape.starts o) (held_words o x) none in
-          let put = same_named o d u e.puts.moves (λ b. no_box u root_then b ∙ sym (no_box d bare_d b)) in
-          let ended = same_named o u w (subst (λ (n : ℕ). MovesReferences n u w) (sym at_change) emptying_ends.moves) (λ b. no_box w emptying_bare b ∙ sym (no_box u root_then b)) in
-          λ b. ended b ∙ (put b ∙ (ap (λ (z : Shape). references_held z b d.log) shape_d ∙ (e.none b ∙ sym (before b).0)))
+          let bare_words : (x : View) → root_in (held_words o x) ≡ 0 → (b : ℕ) → named_in_words b (kind_in x.shape.starts o) (held_words o x) ≡ 0 = λ x none b. none_named b (kind_in x.shape.starts o) (held_words o x) none in
+          let put = same_named o d u e.puts.moves (λ b. bare_words u root_then b ∙ sym (bare_words d bare_d b)) in
+          let ended = same_named o u w (subst (λ (n : ℕ). MovesReferences n u w) (sym at_change) emptying_ends.moves) (λ b. bare_words w emptying_bare b ∙ sym (bare_words u root_then b)) in
+          λ b. ended b ∙ (put b ∙ (ap (λ (z : Shape). references_held z b d.log) shape_d ∙ (none_held b ∙ sym (before.none b))))

@@ -2,7 +2,7 @@
 use Rattle.std.specs.Prelude.{◌≡◌, ◌≢◌, ℕ, ◌^◌, ◌<◌, ◌≤◌}
 use Rattle.ft_layout.specs.declared.slot.Ref.{Ref}
 use Rattle.ft_trace.specs.declared.View.{View}
-use Rattle.ft_trace.specs.Boxes.{made_state, local_count, taken_out, place_to_give, state_making, state_default}
+use Rattle.ft_trace.specs.Boxes.{made_state, local_count, taken_out, place_to_give, place_use, state_making, state_default}
 use Rattle.ft_bank.specs.BoxSteps.{box_id, IsOwn}
 use Rattle.ft_bank.specs.SameBoxes.{SameReferences}
 use Rattle.ft_boxes.specs.References.{LeavesOthers}
@@ -21,5 +21,6 @@ pub record HasTakenOut (b : Ref) (taken : ℕ) (v w : View) : Type 0 where
   pub is : taken_out (box_id b) w.log ≡ taken
   pub few : taken ≤ 2 ^ 60
   pub given : place_to_give (box_id b) w.log ≡ place_to_give (box_id b) v.log
+  pub uses : place_use (box_id b) w.log ≡ place_use (box_id b) v.log
   pub others : LeavesOthers b v w
   pub same : SameReferences v w

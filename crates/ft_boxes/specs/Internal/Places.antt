@@ -1,11 +1,11 @@
 -- A box in the midst of its making.
-use Rattle.std.specs.Prelude.{◌≡◌, ℕ, ◌+◌, ◌-◌}
+use Rattle.std.specs.Prelude.{◌≡◌, ℕ, ◌+◌, ◌-◌, ◌==◌, cond}
 use Rattle.ft_layout.specs.declared.slot.Ref.{Ref}
 use Rattle.ft_trace.specs.declared.View.{View}
 use Rattle.ft_model.specs.declared.data.Value.{Value}
 use Rattle.ft_trace.specs.declared.Act.TheVariants.{ReadFreePlaces}
 use Rattle.ft_trace.specs.Acts.{view_after}
-use Rattle.ft_trace.specs.Boxes.{local_count, taken_out, place_to_give, references_held}
+use Rattle.ft_trace.specs.Boxes.{local_count, taken_out, place_to_give, place_use, references_held, use_stored, use_taken}
 use Rattle.ft_bank.specs.BoxSteps.{box_id, IsBoxIn, IsMaking, IsOwn}
 use Rattle.ft_bank.specs.SameBoxes.{SameReferences}
 use Rattle.ft_boxes.specs.References.{HoldsOneMore, KeepsValues, KnowsValue, LeavesOthers}
@@ -17,6 +17,7 @@ pub record HasTakenPlace (b : Ref) (v w : View) : Type 0 where
   pub was : (IsOwn b v → ⊥) × (references_held v.shape (box_id b) v.log ≡ 0)
   pub making : IsMaking b w
   pub given : place_to_give (box_id b) w.log ≡ place_to_give (box_id b) v.log
+  pub uses : place_use (box_id b) w.log ≡ cond (place_use (box_id b) v.log == use_stored) use_stored use_taken
   pub others : LeavesOthers b v w
   pub same : SameReferences v w
 
@@ -30,6 +31,7 @@ pub record HasFilled (b : Ref) (value : Value) (v w : View) : Type 0 where
   pub counted : local_count (box_id b) w.log ≡ 1
   pub whole : taken_out (box_id b) w.log ≡ 0
   pub given : place_to_give (box_id b) w.log ≡ place_to_give (box_id b) v.log
+  pub uses : place_use (box_id b) w.log ≡ place_use (box_id b) v.log
   pub knows : KnowsValue b value w
   pub more : HoldsOneMore b v w
   pub others : LeavesOthers b v w

@@ -9,6 +9,7 @@ use Rattle.ft_model.specs.declared.reply.Reply.TheVariants as reply
 use Rattle.ft_model.specs.declared.script.ScriptParts.{ScriptParts}
 use Rattle.ft_model.specs.Histories.{calls_of}
 use Rattle.ft_model.specs.Limits.{most_cursors}
+use Rattle.ft_trace.specs.Boxes.{HasMergedBoxes}
 use Rattle.ft_trace.specs.declared.Presence.TheVariants as presence
 use Rattle.ft_trace.specs.Acts.{announces, presence_of}
 use Rattle.ft_bank.specs.declared.note.Note.{Note}
@@ -63,7 +64,8 @@ abbrev pub entries_made : List (Option Seat) → ℕ
 entries_made seats = sum_by (λ seat. length (seat_entries seat)) seats
 
 -- The caller of this thread was answered these entries, of the thread's first calls. The call that it is in is the next
--- one. It has been online since before the first turn as long as it has calls left, and then it goes offline.
+-- one. It has been online since before the first turn as long as it has calls left; then it merges its boxes and goes
+-- offline.
 pub record IsBetweenTurns (e : Engine) (script : ScriptParts) (i : ℕ) (c : Caller) (mine : List Entry) : Type 0 where
   pub member : IsMember e i c
   pub cursors : length (hands_of c) ≡ most_cursors
@@ -75,7 +77,7 @@ pub record IsBetweenTurns (e : Engine) (script : ScriptParts) (i : ℕ) (c : Cal
   pub idle : (named index : ℕ) → slice_get (calls_of script i) (length mine) ≡ Some (call.Await named index) → IsIdle c
   pub online : length mine < length (calls_of script i) → (0 < announces (view (pass_of c)).log) × IsStillOnline c
   pub done : length (calls_of script i) ≤ length mine → IsIdle c × (announces (view (pass_of c)).log ≡ 0)
-      × HasBeenOnline (presence_of (view (pass_of c)).log)
+      × HasBeenOnline (presence_of (view (pass_of c)).log) × HasMergedBoxes (view (pass_of c)).log
 
 -- it rests
 pub record IsSeatOf (e : Engine) (script : ScriptParts) (i : ℕ) (s : Seat) : Type 0 where
@@ -196,6 +198,7 @@ pub record IsNewCaller (e : Engine) (i : ℕ) (c : Caller) : Type 0 where
   pub sections : stack_of (pass_of c) ≡ no_sections
   pub offline : announces (view (pass_of c)).log ≡ 0
   pub never : presence_of (view (pass_of c)).log ≡ presence.Before
+  pub merged : HasMergedBoxes (view (pass_of c)).log
 
 -- it rests
 pub record IsNewRest (e : Engine) (i : ℕ) (r : RestingCaller) : Type 0 where

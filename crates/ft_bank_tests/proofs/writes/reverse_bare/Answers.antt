@@ -1,4 +1,4 @@
-use Rattle.std.proofs.Common.{◌≡◌, sym, ap, ◌∙◌}
+use Rattle.std.proofs.Common.{sym, ap, ◌∙◌}
 use Rattle.ft_trace.specs.declared.Act.TheVariants.{ReadBlock}
 use Rattle.ft_trace.specs.Pictures.{root_in}
 use Rattle.ft_bank.specs.Passes.{view}
@@ -20,4 +20,5 @@ returns-clause-reversed c =
       bare = ap root_in (loaded_held v w c.args.l only) ∙ (sym (c.read_block.ensures.held c.requires.may.locked) ∙ c.if-read_block-ne0.false);
       wrote = c.reverse.ensures.wrote;
       still_bare = c.reverse.ensures.still_bare;
+      merged = λ merged. c.reverse.ensures.merged (λ b own. merged b (sym (only.boxes.made.state b) ∙ own));
     }

@@ -1,8 +1,8 @@
 use Rattle.std.proofs.Common.{◌∙◌}
 use Rattle.ft_bank.specs.Passes.{view}
+use Rattle.ft_bank.proofs.DoneBoxes.{stays_settled_same}
 use Rattle.ft_bank.proofs.KnownAfterWrites.{boxed_then}
 use Rattle.ft_boxes.proofs.Heaps.{first_then}
-use Rattle.ft_boxes.proofs.Steps.{settled_same}
 use Rattle.ft_boxes.proofs.making.make.Goals as goal
 
 pub returns-in-Some-clause-only : goal.returns-in-Some-clause-only
@@ -17,4 +17,4 @@ returns-in-Some-clause-values c =
     (c.fill.ensures.filled.values (taken.same _ ∙ taken.was.1))
 
 pub returns-in-None-clause-settled : goal.returns-in-None-clause-settled
-returns-in-None-clause-settled c = settled_same (view c.args.pass.now) (view c.take_free.new.pass) c.in-None.ensures.full.1.made c.requires.settled
+returns-in-None-clause-settled c = (stays_settled_same (view c.args.pass.now) (view c.take_free.new.pass) c.in-None.ensures.full.1.made).settled c.requires.settled

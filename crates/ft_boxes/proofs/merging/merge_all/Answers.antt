@@ -1,12 +1,12 @@
-use Rattle.std.proofs.Common.{◌≡◌, ℕ, ap, sym, ◌∙◌, refl, subst, arith}
+use Rattle.std.proofs.Common.{ℕ, ap, sym, ◌∙◌, refl, arith}
 use Rattle.ft_layout.specs.declared.slot.Ref.{Ref}
 use Rattle.ft_trace.specs.Addresses.{place_in}
-use Rattle.ft_trace.specs.Boxes.{made_state, references_held}
+use Rattle.ft_trace.specs.Boxes.{made_state}
 use Rattle.ft_trace.specs.declared.Shape.{Shape}
 use Rattle.ft_bank.specs.Passes.{shape_of, view}
 use Rattle.ft_bank.proofs.KnownAfterWrites.{boxed_then}
 use Rattle.ft_boxes.proofs.Heaps.{first_then, merged_next, name_sum, number_is_low, others_next, own_low, own_name}
-use Rattle.ft_boxes.proofs.Steps.{same_then}
+use Rattle.ft_boxes.proofs.Steps.{places_then, same_then}
 use Rattle.ft_boxes.proofs.merging.merge_all.Goals as goal
 
 pub merge_own-requires-clause-name : goal.merge_own-requires-clause-name
@@ -29,6 +29,7 @@ loop-place-preserved c =
       settled = now.settled;
       only = boxed_then v x w old.only now.only;
       same = same_then v x w old.same now.same;
+      places = places_then v x w old.places now.places;
       values = first_then v x w old.only old.same old.values now.values;
       merged = merged_next x w b c.number-maker.result c.loop-place.place refl now.others now.shared old.merged;
       others = others_next v x w b now.others now.was old.others;
@@ -49,23 +50,3 @@ returns-clause-merges c = record {
       old.merged (place_in b) (omega (arith, heap, end, done, low)) (ap (λ (n : ℕ). made_state n w.log) (sym is) ∙ own);
   others = c.loop-place.invariant.others;
 }
-
-pub returns-clause-done : goal.returns-clause-done
-returns-clause-done c none b =
-    let v = view c.args.pass.now in
-    let w = view c.loop-place.pass in
-    let old = c.loop-place.invariant in
-    let shape = c.requires.pass.1 in (
-      subst (λ (z : Shape). references_held z b w.log ≡ 0) (old.only.work.pass.shape ∙ shape) (old.same b ∙ (ap (λ (z : Shape). references_held z b v.log) shape ∙ none b)),
-      old.settled.unmade b,
-      (λ own.
-          let name = own_name w c.loop-place.pass.possible b own in
-          let number = old.only.work.pass.number ∙ c.number-maker.ensures.number in
-          let is = name_sum b c.number-maker.result w.number name.0 number in
-          let heap = ap (λ (z : Shape). z.heap) (old.only.work.pass.shape ∙ shape) in
-          let end = c.heap-place-end.ensures in
-          let done = c.loop-place-test.false in
-          let low = name.1 in
-          old.merged (place_in b) (omega (arith, heap, end, done, low)) (ap (λ (n : ℕ). made_state n w.log) (sym is) ∙ own)),
-      old.settled.given b,
-    )

@@ -7,7 +7,7 @@ use Rattle.ft_bank.specs.Passes.{shape_of, view}
 use Rattle.ft_bank.proofs.KnownAfterWrites.{boxed_then}
 use Rattle.ft_boxes.specs.Merging.{FoundCounts}
 use Rattle.ft_boxes.proofs.Heaps.{first_then, left_next, merges_then, name_sum, number_is_low, own_low, own_name}
-use Rattle.ft_boxes.proofs.Steps.{same_then}
+use Rattle.ft_boxes.proofs.Steps.{places_then, same_then}
 use Rattle.ft_boxes.proofs.merging.merge_idle.Goals as goal
 
 pub merge_if_idle-requires-clause-name : goal.merge_if_idle-requires-clause-name
@@ -30,6 +30,7 @@ loop-place-preserved c =
       settled = now.settled;
       only = boxed_then v x w old.only now.only;
       same = same_then v x w old.same now.same;
+      places = places_then v x w old.places now.places;
       values = first_then v x w old.only old.same old.values now.values;
       merges = merges_then v x w old.only now.only old.merges now.merges;
       left = left_next v x w b c.number-maker.result c.loop-place.place refl old.only now.only now.others now.left old.left;

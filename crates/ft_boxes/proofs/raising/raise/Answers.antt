@@ -1,7 +1,13 @@
-use Rattle.ft_bank.specs.Passes.{view}
+use Rattle.ft_bank.specs.BoxSteps.{box_id}
+use Rattle.ft_bank.specs.Passes.{shape_of, view}
 use Rattle.ft_bank.proofs.KnownAfterWrites.{boxed_then}
 use Rattle.ft_boxes.proofs.Heaps.{first_then, raises_before}
+use Rattle.ft_boxes.proofs.Steps.{saw_then}
 use Rattle.ft_boxes.proofs.raising.raise.Goals as goal
+
+pub raise_shared-requires-clause-saw : goal.raise_shared-requires-clause-saw
+raise_shared-requires-clause-saw c =
+    saw_then (shape_of c.args.bank.now) (box_id c.args.b) (view c.args.pass.now) (view c.raise_if_own.new.pass) c.raise_if_own.ensures.only.work.pass.grown c.requires.saw
 
 pub returns-else-raise_if_own-clause-only : goal.returns-else-raise_if_own-clause-only
 returns-else-raise_if_own-clause-only c =

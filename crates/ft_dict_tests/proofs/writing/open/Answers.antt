@@ -45,7 +45,7 @@ change w c fits =
 pub put_value-requires-clause-writes : goal.put_value-requires-clause-writes
 put_value-requires-clause-writes c =
     let a = c.args in
-    writes_begun (shape_of a.bank.now) 0 a.at.0 (view a.writer.now) (view c.start_write.new.pass) c.start_write.result c.start_write.ensures.1 c.requires.may c.requires.table
+    writes_begun (shape_of a.bank.now) 0 a.at.0 (view a.writer.now) (view c.start_write.new.pass) c.start_write.result c.requires.pass.1 c.start_write.ensures.1 c.requires.may c.requires.table
 
 pub put_value-requires-clause-place : goal.put_value-requires-clause-place
 put_value-requires-clause-place c = c.requires.entry.low

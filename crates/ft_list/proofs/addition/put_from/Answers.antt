@@ -1,4 +1,4 @@
-use Rattle.std.proofs.Common.{◌≡◌, ℕ, ◌+◌, List, ◌++◌, length, refl, sym, ap, ◌∙◌, subst, arith}
+use Rattle.std.proofs.Common.{◌≡◌, ◌≢◌, ℕ, ◌+◌, List, ◌++◌, length, refl, sym, ap, ◌∙◌, subst, arith}
 use Rattle.ft_model.specs.declared.data.Value.{Value}
 use Rattle.ft_model.specs.Worlds.{list_of}
 use Rattle.ft_trace.specs.Addresses.{class_of}
@@ -8,15 +8,18 @@ use Rattle.ft_trace.specs.ContainerStates.{ContainerState}
 use Rattle.ft_bank.specs.Passes.{shape_of, view}
 use Rattle.ft_bank.specs.TableNames.{table_id}
 use Rattle.ft_bank.proofs.KnownAfterWrites.{written_then, work_knows}
+use Rattle.ft_search.proofs.Overs.{plain_refs}
+use Rattle.ft_search.proofs.Owning.{plain_seen}
 use Rattle.ft_list.specs.ListItemWrites.{known_items, stored_item}
 use Rattle.ft_list.specs.Internal.Moving.{IsMoving}
 use Rattle.ft_list.proofs.Cares.{writes_loaded, table_class, few_slots, list_unboxed}
 use Rattle.ft_list.proofs.Extending.{append_low, append_high, gives_put, root_put}
 use Rattle.ft_list.proofs.ItemWordsPut.{moving_starts, moving_next}
-use Rattle.ft_layout.specs.Words.{stored_kind}
+use Rattle.ft_layout.specs.Words.{stored_kind, stored_payload}
 use Rattle.ft_list.proofs.ItemValues.{item_plain}
 use Rattle.ft_list.proofs.Written.{written_same, loaded_written}
 use Rattle.ft_list.proofs.addition.put_from.Goals as goal
+use Rattle.ft_list.proofs.addition.put_from.Goals.{After-given_item-stored}
 
 pub loop-place-init : goal.loop-place-init
 loop-place-init c =
@@ -33,6 +36,7 @@ loop-place-init c =
       list = c.requires.list;
       early = c.requires.early;
       only = written_same a.o v;
+      references = λ b. refl;
       block = refl;
       gives = c.requires.gives;
       root = c.requires.root;
@@ -68,6 +72,16 @@ put_item-requires-clause-list c =
     let l = c.given_item-stored.ensures.only in
     writes_loaded (shape_of a.bank.now) a.o a.table x y c.loop-place.invariant.pass.1 l c.loop-place.invariant.list
 
+-- what is read names no box
+plain_here : (c : After-given_item-stored) → stored_kind c.given_item-stored.result ≢ 4
+plain_here c e = item_plain (known_items c.args.m (view c.loop-place.pass)) c.loop-place.place (sym (ap stored_kind c.given_item-stored.ensures.stored) ∙ e)
+
+pub put_item-requires-clause-own : goal.put_item-requires-clause-own
+put_item-requires-clause-own c four = absurd (plain_here (goal.at.put_item-requires-clause-own c).After-given_item-stored four)
+
+pub put_item-requires-clause-fresh : goal.put_item-requires-clause-fresh
+put_item-requires-clause-fresh c four seen reads = absurd (plain_here (goal.at.put_item-requires-clause-fresh c).After-given_item-stored four)
+
 pub put_item-requires-clause-early : goal.put_item-requires-clause-early
 put_item-requires-clause-early c = c.given_item-stored.ensures.only.work.committed c.args.o ∙ c.loop-place.invariant.early
 
@@ -91,6 +105,8 @@ loop-place-preserved c =
     let n = c.requires.count in
     let m = c.requires.more in
     let r = c.requires.room in
+    let next_one = c.given_item-stored.result in
+    let plain = plain_here (goal.at.loop-place-preserved c).After-given_item-stored in
     let loaded = loaded_written a.o x y f.only in
     let both = written_then a.o x y z loaded e.only in
     let same : held_unboxed a.o y ≡ held_unboxed a.o x = list_unboxed k a.o a.table x y i.pass.1 f.only i.list in
@@ -99,7 +115,7 @@ loop-place-preserved c =
     f.stored ∙ (ap (λ (l : List Value). stored_item l place) (known a.m) ∙ (append_high values others place (omega (arith, test, m)) ∙ ap (λ (q : ℕ). stored_item (values ++ others) (q + place)) (sym n))) in
     let before : IsMoving class values (values ++ others) a.count (a.count + a.more) (a.count + place) (held_unboxed a.o y).table =
     subst (λ (w : ContainerWords). IsMoving class values (values ++ others) a.count (a.count + a.more) (a.count + place) w.table) (sym same) i.moving in
-    let moved = moving_next class is_class values (values ++ others) a.count (a.count + a.more) (a.count + place) (held_unboxed a.o y) (held_unboxed a.o z) c.given_item-stored.result before e.puts f.fits stored (omega arith) (omega (arith, test)) in
+    let moved = moving_next class is_class values (values ++ others) a.count (a.count + a.more) (a.count + place) (held_unboxed a.o y) (held_unboxed a.o z) next_one before (e.puts next_one (plain_seen y next_one plain f.fits)) f.fits stored (omega arith) (omega (arith, test)) in
     let next : a.count + place + 1 ≡ a.count + (place + 1) = omega arith in
     let moving = subst (λ (q : ℕ). IsMoving class values (values ++ others) a.count (a.count + a.more) q (held_unboxed a.o z).table) next moved in
     record {
@@ -108,6 +124,7 @@ loop-place-preserved c =
       list = e.list;
       early = e.only.work.committed a.o ∙ (f.only.work.committed a.o ∙ i.early);
       only = written_then a.o v x z i.only both;
+      references = λ b. plain_refs k y z (stored_kind next_one) (stored_payload next_one) f.pass.1 e.pass.1 plain e.references b ∙ (f.only.boxes.references b ∙ i.references b);
       block = e.block ∙ (ap (λ (w : ContainerWords). w.block) same ∙ i.block);
       gives = gives_put k a.o a.m a.table x z i.pass.1 both i.list e.list i.gives values others a.count (a.count + a.more) (a.count + (place + 1)) moving (known a.o) (omega (arith, n)) (omega (arith, n, r));
       root = root_put k a.o a.m a.table x z i.pass.1 both i.list e.list i.gives ∙ i.root;
@@ -120,7 +137,3 @@ returns-clause-moved c =
     let v = view a.pass.now in
     let at : c.loop-place.place ≡ a.more = let t = c.loop-place-test.false in let e = c.loop-place.auto.place-end in omega (arith, t, e) in
     subst (λ (n : ℕ). IsMoving (class_of (table_id a.table)) (known_items a.o v) (known_items a.o v ++ known_items a.m v) a.count (a.count + a.more) (a.count + n) (held_unboxed a.o (view c.loop-place.pass)).table) at c.loop-place.invariant.moving
-
-pub put_item-requires-clause-plain : goal.put_item-requires-clause-plain
-put_item-requires-clause-plain c e =
-    item_plain (known_items c.args.m (view c.loop-place.pass)) c.loop-place.place (sym (ap stored_kind c.given_item-stored.ensures.stored) ∙ e)

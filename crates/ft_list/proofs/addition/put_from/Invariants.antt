@@ -5,6 +5,7 @@ use Rattle.ft_trace.specs.Holds.{held_unboxed}
 use Rattle.ft_trace.specs.Pictures.{root_in}
 use Rattle.ft_bank.specs.Passes.{shape_of, view, IsPassOf}
 use Rattle.ft_bank.specs.PassSections.{stack_of}
+use Rattle.ft_bank.specs.SameBoxes.{SameReferences}
 use Rattle.ft_bank.specs.TableNames.{table_id, root_for}
 use Rattle.ft_bank.specs.Whole.{OnlyWritten}
 use Rattle.ft_list.specs.ListItemWrites.{WritesList, known_items}
@@ -20,6 +21,7 @@ invariant-loop-place l =
       list : WritesList (shape_of l.bank) l.o l.table (view l.pass);
       early : has_committed l.o (view l.pass).log ≡ false;
       only : OnlyWritten l.o (view l.initial.pass) (view l.pass);
+      references : SameReferences (view l.initial.pass) (view l.pass);
       block : (held_unboxed l.o (view l.pass)).block ≡ (held_unboxed l.o (view l.initial.pass)).block;
       gives : GivesItems (shape_of l.bank) l.o l.m (view l.pass);
       root : root_in (held_unboxed l.m (view l.pass)) ≡ root_for l.from;

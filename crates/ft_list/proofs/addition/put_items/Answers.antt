@@ -73,3 +73,6 @@ returns-clause-moved c =
     let w = view c.table_at_root-from.new.pass in
     let l = c.table_at_root-from.ensures.only in
     subst (λ (z : List Value × List Value). IsMoving (class_of (table_id a.table)) z.0 (z.0 ++ z.1) a.count (a.count + a.more) (a.count + a.more) (held_unboxed a.o (view c.put_from.new.pass)).table) (λ d. (items_loaded a.o v w l d, items_loaded a.m v w l d)) c.put_from.ensures.moved
+
+pub returns-clause-references : goal.returns-clause-references
+returns-clause-references c b = c.put_from.ensures.references b ∙ c.table_at_root-from.ensures.only.boxes.references b

@@ -9,7 +9,7 @@ use Rattle.ft_trace.specs.Pictures.{root_in}
 use Rattle.ft_bank.specs.Passes.{shape_of, view}
 use Rattle.ft_bank.specs.WriteSteps.{Committed, MayCommit}
 use Rattle.ft_list.proofs.Emptying.{may_put_none, clear_may_commit, clear_stands, clear_root, clear_shut, clear_wrote, clear_of}
-use Rattle.ft_search.proofs.Puts.{few_done, same_done}
+use Rattle.ft_search.proofs.Puts.{few_done}
 use Rattle.ft_trace.specs.Boxes.{references_held}
 use Rattle.ft_list.proofs.clearing.clear_table.Goals as goal
 use Rattle.ft_list.proofs.clearing.clear_table.Goals.{After-commit-number}
@@ -20,8 +20,8 @@ put_other_root-requires-clause-list c = c.requires.may.list
 pub put_other_root-requires-clause-even : goal.put_other_root-requires-clause-even
 put_other_root-requires-clause-even c = c.requires.may.even
 
-pub put_other_root-requires-clause-boxes : goal.put_other_root-requires-clause-boxes
-put_other_root-requires-clause-boxes c = c.requires.may.boxes
+pub put_other_root-requires-clause-settled : goal.put_other_root-requires-clause-settled
+put_other_root-requires-clause-settled c = c.requires.may.boxes.settled
 
 pub put_other_root-requires-clause-plain : goal.put_other_root-requires-clause-plain
 put_other_root-requires-clause-plain c b = refl
@@ -92,13 +92,10 @@ returns-clause-root c =
 
 pub returns-clause-references : goal.returns-clause-references
 returns-clause-references c =
-    let k = shape_of c.args.bank.now in
-    let v = view c.args.pass.now in
-    let s = view c.put_other_root.new.pass in
     let r = c.put_other_root.ensures in
     let b = c.put_block.ensures in
     let held : View → ℕ → ℕ = λ z n. references_held z.shape n z.log in
     λ n.
     ap (λ (z : View). held z n) c.stop_write.ensures.1
     ∙ (ap (λ (z : View). held z n) c.commit-number.ensures.did.1.1
-    ∙ (b.boxes.references n ∙ same_done k v s c.requires.pass.1 r.pass.1 c.requires.may.boxes r.boxes n))
+    ∙ (b.boxes.references n ∙ r.references n))

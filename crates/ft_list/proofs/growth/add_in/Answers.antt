@@ -1,7 +1,8 @@
-use Rattle.std.proofs.Common.{◌≡◌, ℕ, ◌+◌, ◌<◌, ◌≤◌, List, length, Some, sym, ap, ◌∙◌, subst, arith, suc}
+use Rattle.std.proofs.Common.{◌≡◌, ◌≢◌, ℕ, ◌+◌, ◌<◌, ◌≤◌, List, length, Some, sym, ap, ◌∙◌, subst, arith, suc}
 use Rattle.ft_model.specs.declared.data.Value.{Value}
 use Rattle.ft_model.specs.Worlds.{list_of}
 use Rattle.ft_layout.specs.Containers.{IsBlock}
+use Rattle.ft_trace.specs.Boxes.{place_use, use_taken}
 use Rattle.ft_trace.specs.declared.Act.TheVariants.{PutBlock}
 use Rattle.ft_trace.specs.declared.Shape.{Shape}
 use Rattle.ft_trace.specs.declared.View.{View}
@@ -22,10 +23,9 @@ use Rattle.ft_list.proofs.Cares.{few_slots, table_class, writes_on}
 use Rattle.ft_list.proofs.Extending.{added_changing, added_head, added_long, added_on, addition_begun, addition_on}
 use Rattle.ft_list.proofs.FinishedWrites.{root_stays}
 use Rattle.ft_list.proofs.GrownLists.{grow_filled}
-use Rattle.ft_list.proofs.GrowWrites.{grow_finishing, grow_wrote, list_changes}
+use Rattle.ft_list.proofs.GrowWrites.{taken_before_root, grow_finishing, grow_wrote, list_changes}
 use Rattle.ft_list.proofs.WholeListWrites.{grows_on}
 use Rattle.ft_list.proofs.Rooted.{rooted_known, rooted_other}
-use Rattle.ft_search.proofs.Puts.{done_then, same_done}
 use Rattle.ft_list.proofs.growth.add_in.Goals as goal
 
 pub begin_in-requires-clause-may : goal.begin_in-requires-clause-may
@@ -137,6 +137,7 @@ finish-requires-clause-may c =
     subst (λ (z : List Value × List Value). Grows a.o call_is.0 z.0 z.1 class x) (λ d. (sym same d, sym news_is d))
     (grows_on v x knows_x g.work.pass.shape (λ p mine. g.work.pass.locks p ∙ mine) a.o call_is.0 olds (with_added a.addition v olds) class call_is.2) in
     grow_finishing k a.o a.old a.table x h.rooted u h.start may h.did only first total call_is.0 a.called.now values news call_is.1 grows b.content list (ap (λ (z : View). z.shape) c.put_block.ensures.did.1 ∙ e.pass.1) changing head
+    (λ stored has. let none : (b : ℕ) → place_use b u.log ≢ use_taken = λ b taken. may.boxes.stored b (taken_before_root k a.o a.old a.table x h.rooted u h.start may h.did only b taken) in ((λ b e. absurd (none b e)), (λ b y e other. absurd (none b e))))
 
 pub returns-clause-wrote : goal.returns-clause-wrote
 returns-clause-wrote c =
@@ -173,13 +174,7 @@ begin_in-requires-clause-other c is =
     c.requires.other (sym (ap root_in same) ∙ is)
 
 pub returns-clause-references : goal.returns-clause-references
-returns-clause-references c =
-    let a = c.args in
-    let k = shape_of a.bank.now in
-    let v = view a.pass.now in
-    let y = view c.put_added.new.pass in
-    let u = view c.put_block.new.pass in
-    let b = c.put_block.ensures in
-    let done = done_then k y u c.put_added.ensures.pass.1 (ap (λ (z : View). z.shape) b.did.1) b.boxes.references b.boxes.made c.put_added.ensures.list.boxes in
-    let same = same_done k v u c.requires.pass.1 (ap (λ (z : View). z.shape) b.did.1 ∙ c.put_added.ensures.pass.1) c.requires.may.boxes done in
-    λ n. c.finish.ensures.references n ∙ same n
+returns-clause-references c b =
+    c.finish.ensures.references b
+    ∙ (c.put_block.ensures.boxes.references b
+    ∙ (c.put_added.ensures.references b ∙ (c.begin_in.ensures.references b ∙ c.fill.ensures.only.references b)))

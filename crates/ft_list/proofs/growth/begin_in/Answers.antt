@@ -5,6 +5,7 @@ use Rattle.ft_trace.specs.Holds.{held_unboxed, known_state, in_hand}
 use Rattle.ft_trace.specs.Pictures.{ContainerWords, root_in}
 use Rattle.ft_bank.specs.Passes.{shape_of, view}
 use Rattle.ft_bank.specs.TableNames.{table_id}
+use Rattle.ft_search.proofs.Puts.{few_done, few_same}
 use Rattle.ft_list.specs.ListItemWrites.{IsPutting, known_items, stored_item}
 use Rattle.ft_list.proofs.Cares.{table_class}
 use Rattle.ft_list.proofs.Filling.{filled_putting}
@@ -19,8 +20,8 @@ put_other_root-requires-clause-list c = c.requires.may.list
 pub put_other_root-requires-clause-even : goal.put_other_root-requires-clause-even
 put_other_root-requires-clause-even c = c.requires.may.even
 
-pub put_other_root-requires-clause-boxes : goal.put_other_root-requires-clause-boxes
-put_other_root-requires-clause-boxes c = c.requires.may.boxes
+pub put_other_root-requires-clause-settled : goal.put_other_root-requires-clause-settled
+put_other_root-requires-clause-settled c = c.requires.may.boxes.settled
 
 pub put_other_root-requires-clause-other : goal.put_other_root-requires-clause-other
 put_other_root-requires-clause-other c e = c.requires.other (c.requires.may.list.root ∙ e)
@@ -61,7 +62,8 @@ returns-clause-list c =
       locked = rooted_locks a.o (suc (table_id a.table)) v (view c.put_other_root.new.pass) h a.o ∙ list.locked;
       odd = rooted_odd a.o (suc (table_id a.table)) v (view c.put_other_root.new.pass) h;
       root = ap root_in c.put_other_root.ensures.words ∙ get_or-set_same (held_unboxed a.o v).block 0 (suc (table_id a.table)) 0 (omega (arith, size));
-      boxes = c.put_other_root.ensures.boxes;
+      settled = c.put_other_root.ensures.settled;
+      few = few_same v (view c.put_other_root.new.pass) c.put_other_root.ensures.references (few_done k v c.requires.pass.1 c.requires.may.boxes);
     }
 
 pub returns-clause-putting : goal.returns-clause-putting

@@ -98,3 +98,10 @@ returns-else-version-eq1-clause-item c =
       even = even;
       words = e.held ∙ (λ d. record { block = (held_unboxed a.o v).block; table = sym (set_own (held_unboxed a.o v).table (item_offset a.place 0) c.read_version-version.result e.found) d });
     }
+
+pub returns-else-version-eq1-clause-references : goal.returns-else-version-eq1-clause-references
+returns-else-version-eq1-clause-references c = c.read_version-version.ensures.only.boxes.references
+
+pub returns-then-version-eq1-clause-references : goal.returns-then-version-eq1-clause-references
+returns-then-version-eq1-clause-references c b =
+    c.put_word.ensures.same (far (goal.at.returns-then-version-eq1-clause-references c).After-put_word) b ∙ c.read_version-version.ensures.only.boxes.references b

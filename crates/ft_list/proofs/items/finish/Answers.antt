@@ -12,12 +12,12 @@ use Rattle.ft_trace.specs.Holds.{held_unboxed, known_state}
 use Rattle.ft_bank.specs.Passes.{shape_of, view}
 use Rattle.ft_bank.specs.TableNames.{table_id}
 use Rattle.ft_bank.specs.Whole.{OnlyPut}
+use Rattle.ft_bank.proofs.DoneBoxes.{none_taken}
 use Rattle.ft_bank.proofs.KnownAfterWrites.{write_ends}
 use Rattle.ft_list.specs.ListItemWrites.{IsChanging, known_items}
 use Rattle.ft_list.proofs.FinishedWrites.{kept_after, stands_at_end, list_is_shut}
 use Rattle.ft_list.proofs.PutItems.{changing_only}
-use Rattle.ft_search.proofs.Puts.{same_done}
-use Rattle.ft_trace.specs.Boxes.{IsDoneWithBoxes}
+use Rattle.ft_trace.specs.Boxes.{place_use, references_held}
 use Rattle.ft_list.proofs.items.finish.Goals as goal
 
 pub close_items-requires-clause-changing : goal.close_items-requires-clause-changing
@@ -72,9 +72,13 @@ returns-clause-ends c =
     (subst (λ (n : ℕ). view c.stop_write.new.pass ≡ view_after (StopWrite n c.stop_write.result) z) at c.stop_write.ensures.1)
 
 pub returns-clause-references : goal.returns-clause-references
-returns-clause-references c =
-    let k = shape_of c.args.bank.now in
-    let stopped = c.stop_write.ensures.1 in
-    let e = c.close_items.ensures in
-    same_done k (view c.args.pass.now) (view c.stop_write.new.pass) c.requires.pass.1 (ap (λ (z : View). z.shape) stopped ∙ e.pass.1) c.requires.list.boxes
-    (subst (λ (z : View). IsDoneWithBoxes k z.log) (sym stopped) e.list.boxes)
+returns-clause-references c b =
+    let held = λ (z : View). references_held z.shape b z.log in
+    ap held c.stop_write.ensures.1 ∙ (c.close_items.ensures.references b ∙ ap held c.commit-number.ensures.did.1.1)
+
+-- the write has stored each box whose place the pass had taken
+pub returns-clause-stored : goal.returns-clause-stored
+returns-clause-stored c b taken =
+    let used = λ (z : View). place_use b z.log in
+    let was : place_use b (view c.commit-number.new.pass).log ≡ 1 = sym (ap used c.stop_write.ensures.1 ∙ c.close_items.ensures.only.made.uses b) ∙ taken in
+    none_taken (place_use b (view c.args.pass.now).log) (sym (ap used c.commit-number.ensures.did.1.1) ∙ was)

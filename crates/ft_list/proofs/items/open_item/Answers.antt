@@ -10,6 +10,7 @@ use Rattle.ft_bank.specs.Passes.{shape_of, view}
 use Rattle.ft_bank.specs.TableNames.{table_id}
 use Rattle.ft_bank.specs.Whole.{OnlyPut}
 use Rattle.ft_bank.proofs.KnownAfterWrites.{put_by, put_written, written_then}
+use Rattle.ft_search.proofs.Owning.{keeps_loaded, keeps_put, keeps_then}
 use Rattle.ft_list.proofs.Cares.{few_slots, inside, far_word, open_care, set_own, writes_on}
 use Rattle.ft_list.proofs.Written.{loaded_written}
 use Rattle.ft_list.proofs.items.open_item.Goals as goal
@@ -83,3 +84,22 @@ returns-then-version-eq0-clause-words c =
       odd,
       c.put_word.ensures.unboxed (far d) ∙ (λ i. record { block = (e.held i).block; table = slice_set (e.held i).table (c.word_at.ensures i) (c.read_version-version.result + 1) }),
     )
+
+pub returns-else-version-eq0-clause-references : goal.returns-else-version-eq0-clause-references
+returns-else-version-eq0-clause-references c = c.read_version-version.ensures.only.boxes.references
+
+pub returns-else-version-eq0-clause-keeps : goal.returns-else-version-eq0-clause-keeps
+returns-else-version-eq0-clause-keeps c = keeps_loaded (view c.args.pass.now) (view c.read_version-version.new.pass) c.args.pass.now.possible c.read_version-version.ensures.only
+
+pub returns-then-version-eq0-clause-references : goal.returns-then-version-eq0-clause-references
+returns-then-version-eq0-clause-references c b =
+    c.put_word.ensures.same (far (goal.at.returns-then-version-eq0-clause-references c).After-put_word) b ∙ c.read_version-version.ensures.only.boxes.references b
+
+pub returns-then-version-eq0-clause-keeps : goal.returns-then-version-eq0-clause-keeps
+returns-then-version-eq0-clause-keeps c =
+    let d = (goal.at.returns-then-version-eq0-clause-keeps c).After-put_word in
+    let v = view c.args.pass.now in
+    let u = view c.read_version-version.new.pass in
+    let w = view c.put_word.new.pass in
+    keeps_then v u w (keeps_loaded v u c.args.pass.now.possible c.read_version-version.ensures.only)
+    (keeps_put u w c.args.o (table_id c.args.table) c.word_at.result (c.read_version-version.result + 1) c.put_word.ensures.did.1 (c.put_word.ensures.same (far d)))

@@ -1,17 +1,19 @@
-use Rattle.std.proofs.Common.{◌≡◌, ℕ, ◌/◌, List, length, Some, sym, ◌∙◌, subst, arith}
+use Rattle.std.proofs.Common.{◌≡◌, ℕ, ◌/◌, List, length, Some, sym, ap, ◌∙◌, subst, arith}
 use Rattle.std.specs.Prelude.{reverse}
 use Rattle.std.proofs.lemmas.List.{length-reverse}
 use Rattle.ft_layout.specs.Containers.{IsBlock}
+use Rattle.ft_trace.specs.declared.View.{View}
+use Rattle.ft_trace.specs.Boxes.{references_held}
 use Rattle.ft_trace.specs.Addresses.{class_of}
 use Rattle.ft_trace.specs.Holds.{held_unboxed}
 use Rattle.ft_bank.specs.Passes.{shape_of, view}
 use Rattle.ft_bank.specs.TableNames.{table_id}
+use Rattle.ft_list.proofs.Lists.{begins}
 use Rattle.ft_list.specs.ListItemWrites.{known_items}
 use Rattle.ft_list.specs.Internal.Reversing.{IsTurning}
 use Rattle.ft_list.proofs.Cares.{table_class}
 use Rattle.ft_list.proofs.Turned.{turning_ends}
-use Rattle.ft_list.proofs.WholeListWrites.{finishing, list_wrote, root_wrote}
-use Rattle.ft_search.proofs.Puts.{same_done}
+use Rattle.ft_list.proofs.WholeListWrites.{finishing, list_wrote, root_wrote, stores_none}
 use Rattle.ft_list.proofs.turning.reverse_items.Goals as goal
 use Rattle.ft_list.proofs.ItemWordsPut.{Changed}
 
@@ -41,7 +43,8 @@ finish-requires-clause-may c =
     let head = subst (λ (n : ℕ). IsBlock (held_unboxed a.o u).block (Some class) n 0 0) (sym (length-reverse values)) (subst (λ (l : List ℕ). IsBlock l (Some class) (length values) 0 0) (sym e.block) b.head) in
     let d = b.did in
     let call_is = c.requires.call in
-    finishing k a.o a.table v s u d.0 c.requires.may d.1.1 e.only 0 a.count call_is.0 a.called.now a.said.now values news call_is.1 call_is.2 b.content b.table e.list e.pass.1 changing head
+    finishing k a.o a.table v s u d.0 (begins k a.o (view a.pass.now) c.requires.pass.1 c.requires.may) d.1.1 e.only 0 a.count call_is.0 a.called.now a.said.now values news call_is.1 call_is.2 b.content b.table e.list e.pass.1 changing head
+    (λ stored has. stores_none k a.o a.table v s u d.0 (begins k a.o v c.requires.pass.1 c.requires.may) d.1.1 e.only c.requires.may.boxes.stored a.called.now stored)
 
 pub returns-clause-wrote : goal.returns-clause-wrote
 returns-clause-wrote c =
@@ -53,7 +56,7 @@ returns-clause-wrote c =
     let d = c.begin.ensures.did in
     let e = c.turn.ensures in
     let call_is = c.requires.call in
-    list_wrote k a.o a.table v s u d.0 c.requires.may d.1.1 e.only call_is.0 a.called.now a.said.now c.finish.result (view c.finish.new.pass) call_is.1 call_is.2.write.changing c.finish.ensures.ends (e.list.root ∙ sym c.requires.table.root)
+    list_wrote k a.o a.table v s u d.0 (begins k a.o (view a.pass.now) c.requires.pass.1 c.requires.may) d.1.1 e.only call_is.0 a.called.now a.said.now c.finish.result (view c.finish.new.pass) call_is.1 call_is.2.write.changing c.finish.ensures.ends (e.list.root ∙ sym c.requires.table.root)
 
 pub returns-clause-root : goal.returns-clause-root
 returns-clause-root c =
@@ -65,14 +68,15 @@ returns-clause-root c =
     let d = c.begin.ensures.did in
     let e = c.turn.ensures in
     let call_is = c.requires.call in
-    root_wrote k a.o a.table v s u d.0 c.requires.may d.1.1 e.only call_is.0 a.called.now a.said.now c.finish.result (view c.finish.new.pass) call_is.1 call_is.2.write.changing c.finish.ensures.ends (e.list.root ∙ sym c.requires.table.root)
+    root_wrote k a.o a.table v s u d.0 (begins k a.o (view a.pass.now) c.requires.pass.1 c.requires.may) d.1.1 e.only call_is.0 a.called.now a.said.now c.finish.result (view c.finish.new.pass) call_is.1 call_is.2.write.changing c.finish.ensures.ends (e.list.root ∙ sym c.requires.table.root)
 
 pub returns-clause-references : goal.returns-clause-references
-returns-clause-references c =
-    let a = c.args in
-    let e = c.turn.ensures in
-    let same = same_done (shape_of a.bank.now) (view a.pass.now) (view c.turn.new.pass) c.requires.pass.1 e.pass.1 c.requires.may.boxes e.list.boxes in
-    λ n. c.finish.ensures.references n ∙ same n
+returns-clause-references c b =
+    let begun : (n : ℕ) → references_held (view c.begin.new.pass).shape n (view c.begin.new.pass).log ≡ references_held (view c.args.pass.now).shape n (view c.args.pass.now).log = λ n. ap (λ (z : View). references_held z.shape n z.log) c.begin.ensures.did.1.1 in
+    c.finish.ensures.references b ∙ (c.turn.ensures.references b ∙ begun b)
 
 pub turn-requires-clause-before : goal.turn-requires-clause-before
 turn-requires-clause-before c = (known_items c.args.o (view c.args.pass.now), sym c.requires.count, c.begin.ensures.putting 0 c.args.count)
+
+pub begin-requires-clause-may : goal.begin-requires-clause-may
+begin-requires-clause-may c = begins (shape_of c.args.bank.now) c.args.o (view c.args.pass.now) c.requires.pass.1 c.requires.may

@@ -22,6 +22,7 @@ loop-at-init c =
       list = c.requires.list;
       early = c.requires.early;
       only = written_same a.o v;
+      references = λ b. refl;
       block = refl;
       turning = λ values long putting. turning_starts class (table_class (shape_of a.bank.now) a.table c.requires.list.table_in) values (held_unboxed a.o v).table
           (subst (λ (n : ℕ). IsPutting class values 0 n (stored_item values) (held_unboxed a.o v).table) (sym long) putting);
@@ -41,6 +42,7 @@ loop-at-preserved c =
       list = e.list;
       early = e.only.work.committed a.o ∙ i.early;
       only = written_then a.o v x z i.only e.only;
+      references = λ b. e.references b ∙ i.references b;
       block = e.block ∙ i.block;
       turning = λ values long putting. e.turned values long (i.turning values long putting);
     }

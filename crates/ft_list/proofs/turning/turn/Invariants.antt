@@ -5,6 +5,7 @@ use Rattle.ft_trace.specs.Addresses.{class_of}
 use Rattle.ft_trace.specs.Holds.{held_unboxed}
 use Rattle.ft_bank.specs.Passes.{shape_of, view, IsPassOf}
 use Rattle.ft_bank.specs.PassSections.{stack_of}
+use Rattle.ft_bank.specs.SameBoxes.{SameReferences}
 use Rattle.ft_bank.specs.TableNames.{table_id}
 use Rattle.ft_bank.specs.Whole.{OnlyWritten}
 use Rattle.ft_list.specs.ListItemWrites.{WritesList, IsPutting, stored_item}
@@ -19,6 +20,7 @@ invariant-loop-at l =
       list : WritesList (shape_of l.bank) l.o l.table (view l.pass);
       early : has_committed l.o (view l.pass).log ≡ false;
       only : OnlyWritten l.o (view l.initial.pass) (view l.pass);
+      references : SameReferences (view l.initial.pass) (view l.pass);
       block : (held_unboxed l.o (view l.pass)).block ≡ (held_unboxed l.o (view l.initial.pass)).block;
       turning : (values : List Value) → length values ≡ l.count
           → IsPutting (class_of (table_id l.table)) values 0 l.count (stored_item values) (held_unboxed l.o (view l.initial.pass)).table

@@ -2,6 +2,7 @@ use Rattle.std.proofs.Common.{◌≡◌, ℕ, ◌+◌, ◌≤◌, true, List, le
 use Rattle.ft_model.specs.declared.data.Value.{Value}
 use Rattle.ft_model.specs.declared.reply.Reply.TheVariants as reply
 use Rattle.ft_layout.specs.Containers.{IsBlock}
+use Rattle.ft_trace.specs.Boxes.{references_held}
 use Rattle.ft_trace.specs.declared.Act.TheVariants.{PutBlock}
 use Rattle.ft_trace.specs.declared.View.{View}
 use Rattle.ft_trace.specs.Acts.{has_lock, is_writing}
@@ -12,14 +13,14 @@ use Rattle.ft_bank.specs.Passes.{shape_of, view}
 use Rattle.ft_bank.specs.TableNames.{table_id}
 use Rattle.ft_bank.specs.Whole.{OnlyWritten}
 use Rattle.ft_bank.proofs.KnownAfterWrites.{put_by, put_written, written_then}
+use Rattle.ft_list.proofs.Lists.{begins}
 use Rattle.ft_list.specs.ListItemWrites.{IsPutting, known_items, stored_item}
 use Rattle.ft_list.specs.Internal.Moving.{IsMoving}
 use Rattle.ft_list.specs.Internal.Additions.{count_in, first_in, with_added}
 use Rattle.ft_list.proofs.Cares.{table_class, writes_on}
 use Rattle.ft_list.proofs.Extending.{added_changing, added_head, added_long, added_on, addition_begun}
 use Rattle.ft_list.proofs.FinishedWrites.{root_stays}
-use Rattle.ft_list.proofs.WholeListWrites.{finishing, list_wrote, root_wrote}
-use Rattle.ft_search.proofs.Puts.{done_then, same_done}
+use Rattle.ft_list.proofs.WholeListWrites.{finishing, list_wrote, root_wrote, stores_none}
 use Rattle.ft_list.proofs.writes.add_items.Goals as goal
 
 pub put_added-requires-clause-addition : goal.put_added-requires-clause-addition
@@ -76,7 +77,8 @@ finish-requires-clause-may c =
     let head = added_head class is_class values news first total (held_unboxed a.o y) (held_unboxed a.o u) moved held_is short long room (subst (λ (l : List ℕ). IsBlock l (Some class) (length values) 0 0) (sym e.block) b.head) in
     let list = writes_on k a.o a.table y u e.pass.1 last.work c.put_block.ensures.boxes.references last.made (root_stays _ _ _ _ (omega arith) held_is) e.list in
     let call_is = c.requires.call in
-    finishing k a.o a.table v s u b.did.0 c.requires.may begun only first total call_is.0 a.called.now reply.Done values news call_is.1 call_is.2 b.content b.table list (ap (λ (z : View). z.shape) c.put_block.ensures.did.1 ∙ e.pass.1) changing head
+    finishing k a.o a.table v s u b.did.0 (begins k a.o (view a.pass.now) c.requires.pass.1 c.requires.may) begun only first total call_is.0 a.called.now reply.Done values news call_is.1 call_is.2 b.content b.table list (ap (λ (z : View). z.shape) c.put_block.ensures.did.1 ∙ e.pass.1) changing head
+    (λ stored has. stores_none k a.o a.table v s u b.did.0 (begins k a.o v c.requires.pass.1 c.requires.may) begun only c.requires.may.boxes.stored a.called.now stored)
 
 pub returns-clause-wrote : goal.returns-clause-wrote
 returns-clause-wrote c =
@@ -89,7 +91,7 @@ returns-clause-wrote c =
     let e = c.put_added.ensures in
     let last = put_by (PutBlock a.o 1 (a.count + c.added_count.result)) y u a.o tt c.put_block.ensures.did.1 c.put_block.ensures.keeps c.put_block.ensures.moves in
     let call_is = c.requires.call in
-    list_wrote k a.o a.table (view a.pass.now) s u d.0 c.requires.may d.1.1 (written_then a.o s y u e.only (put_written a.o y u last)) call_is.0 a.called.now reply.Done c.finish.result (view c.finish.new.pass) call_is.1 call_is.2.write.changing c.finish.ensures.ends
+    list_wrote k a.o a.table (view a.pass.now) s u d.0 (begins k a.o (view a.pass.now) c.requires.pass.1 c.requires.may) d.1.1 (written_then a.o s y u e.only (put_written a.o y u last)) call_is.0 a.called.now reply.Done c.finish.result (view c.finish.new.pass) call_is.1 call_is.2.write.changing c.finish.ensures.ends
     ((root_stays _ _ _ _ (omega arith) c.put_block.ensures.unboxed) ∙ (e.list.root ∙ sym c.requires.table.root))
 
 pub returns-clause-root : goal.returns-clause-root
@@ -103,16 +105,13 @@ returns-clause-root c =
     let e = c.put_added.ensures in
     let last = put_by (PutBlock a.o 1 (a.count + c.added_count.result)) y u a.o tt c.put_block.ensures.did.1 c.put_block.ensures.keeps c.put_block.ensures.moves in
     let call_is = c.requires.call in
-    root_wrote k a.o a.table (view a.pass.now) s u d.0 c.requires.may d.1.1 (written_then a.o s y u e.only (put_written a.o y u last)) call_is.0 a.called.now reply.Done c.finish.result (view c.finish.new.pass) call_is.1 call_is.2.write.changing c.finish.ensures.ends
+    root_wrote k a.o a.table (view a.pass.now) s u d.0 (begins k a.o (view a.pass.now) c.requires.pass.1 c.requires.may) d.1.1 (written_then a.o s y u e.only (put_written a.o y u last)) call_is.0 a.called.now reply.Done c.finish.result (view c.finish.new.pass) call_is.1 call_is.2.write.changing c.finish.ensures.ends
     ((root_stays _ _ _ _ (omega arith) c.put_block.ensures.unboxed) ∙ (e.list.root ∙ sym c.requires.table.root))
 
 pub returns-clause-references : goal.returns-clause-references
-returns-clause-references c =
-    let a = c.args in
-    let k = shape_of a.bank.now in
-    let y = view c.put_added.new.pass in
-    let u = view c.put_block.new.pass in
-    let b = c.put_block.ensures in
-    let done = done_then k y u c.put_added.ensures.pass.1 (ap (λ (z : View). z.shape) b.did.1) b.boxes.references b.boxes.made c.put_added.ensures.list.boxes in
-    let same = same_done k (view a.pass.now) u c.requires.pass.1 (ap (λ (z : View). z.shape) b.did.1 ∙ c.put_added.ensures.pass.1) c.requires.may.boxes done in
-    λ n. c.finish.ensures.references n ∙ same n
+returns-clause-references c b =
+    let begun : (n : ℕ) → references_held (view c.begin.new.pass).shape n (view c.begin.new.pass).log ≡ references_held (view c.args.pass.now).shape n (view c.args.pass.now).log = λ n. ap (λ (z : View). references_held z.shape n z.log) c.begin.ensures.did.1.1 in
+    c.finish.ensures.references b ∙ (c.put_block.ensures.boxes.references b ∙ (c.put_added.ensures.references b ∙ begun b))
+
+pub begin-requires-clause-may : goal.begin-requires-clause-may
+begin-requires-clause-may c = begins (shape_of c.args.bank.now) c.args.o (view c.args.pass.now) c.requires.pass.1 c.requires.may

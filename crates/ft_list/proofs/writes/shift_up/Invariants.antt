@@ -7,6 +7,7 @@ use Rattle.ft_trace.specs.Addresses.{class_of}
 use Rattle.ft_trace.specs.Holds.{held_unboxed}
 use Rattle.ft_bank.specs.Passes.{shape_of, view, IsPassOf}
 use Rattle.ft_bank.specs.PassSections.{stack_of}
+use Rattle.ft_bank.specs.SameBoxes.{SameReferences}
 use Rattle.ft_bank.specs.TableNames.{table_id}
 use Rattle.ft_bank.specs.Whole.{OnlyWritten}
 use Rattle.ft_list.specs.ListItemWrites.{WritesList, IsPutting, stored_item}
@@ -21,6 +22,7 @@ invariant-loop-at l =
       list : WritesList (shape_of l.bank) l.o l.table (view l.pass);
       early : has_committed l.o (view l.pass).log ≡ false;
       only : OnlyWritten l.o (view l.initial.pass) (view l.pass);
+      references : SameReferences (view l.initial.pass) (view l.pass);
       block : (held_unboxed l.o (view l.pass)).block ≡ (held_unboxed l.o (view l.initial.pass)).block;
       from : l.place ≤ l.at;
       fits : FitsStored l.carried;

@@ -12,7 +12,7 @@ returns-clause-list c =
     let e = c.read_block-root.ensures in
     let t = c.table_named.ensures in
     begun_lists k a.l c.read_block-root.result c.start_write.result (view a.writer.now) (view c.read_block-root.new.pass) (view c.start_write.new.pass) e.did.1 c.start_write.ensures.1
-    c.table_named.result t.named (t.in_bank k (λ q x. e.table q refl x)) c.requires.container c.requires.list c.requires.locked (e.held c.requires.locked)
+    c.table_named.result t.named (t.in_bank k (λ q x. e.table q refl x)) c.requires.pass.1 c.requires.container c.requires.list c.requires.locked (e.held c.requires.locked)
     (subst (λ (z : Shape). IsDoneWithBoxes z (view a.writer.now).log) c.requires.pass.1 c.requires.boxes)
 
 pub returns-clause-early : goal.returns-clause-early

@@ -58,6 +58,9 @@ returns-then-version-eq1-clause-closing c =
     let e = c.raise_version.ensures in
     closing_raised (laws d) (shape_of a.bank.now) a.o a.table a.place a.fill (view c.word_of-version.new.pass) c.word_of-version.ensures.pass.1 c.word_of-version.new.pass.possible c.requires.place (loaded d) (versions d) (view c.raise_version.new.pass) e.only e.references e.words (odd d c.if-version-eq1.true)
 
+pub returns-then-version-eq1-clause-references : goal.returns-then-version-eq1-clause-references
+returns-then-version-eq1-clause-references c b = c.raise_version.ensures.references b ∙ c.word_of-version.ensures.only.boxes.references b
+
 pub returns-then-version-eq1-clause-only : goal.returns-then-version-eq1-clause-only
 returns-then-version-eq1-clause-only c =
     let v = view c.args.pass.now in

@@ -2,7 +2,6 @@ use Rattle.std.proofs.Common.{ap, ◌∙◌}
 use Rattle.ft_trace.specs.declared.View.{View}
 use Rattle.ft_trace.specs.Boxes.{references_held}
 use Rattle.ft_bank.specs.Passes.{shape_of, view}
-use Rattle.ft_search.proofs.Puts.{same_done}
 use Rattle.ft_merging.proofs.Ending.{closing_begins, closing_ends, closing_shut}
 use Rattle.ft_merging.proofs.closing.finish_entries.Goals as goal
 
@@ -43,8 +42,5 @@ returns-clause-ends c =
 
 pub returns-clause-references : goal.returns-clause-references
 returns-clause-references c b =
-    let u = view c.args.pass.now in
-    let z = view c.close_all.new.pass in
-    let e = c.close_all.ensures in
     ap (λ (y : View). references_held y.shape b y.log) c.stop_write.ensures.1
-    ∙ same_done (shape_of c.args.bank.now) u z c.requires.pass.1 e.pass.1 c.requires.may.midway.writes.boxes e.closing.writes.boxes b
+    ∙ (c.close_all.ensures.references b ∙ ap (λ (y : View). references_held y.shape b y.log) c.commit-number.ensures.did.1.1)

@@ -57,7 +57,7 @@ join_table-number-requires-clause-finishes c w counts only joining =
     let none = may.owes in
     let table = here_table c.words_are_of_one_content.ensures.head (record { pairs = c.used_entries_follow_a_dict.ensures.first; elements = c.used_entries_follow_a_set.ensures.first }) k a.merge.now.o a.way a.own a.merge.now.t a.merge.now.table a.merge.now.counts a.merge.now.more v u c.start_write.result c.requires.pass.1 a.pass.now.possible c.requires.merge.two may c.requires.merge.other c.requires.merge.way c.requires.merge.other_way
     c.requires.merge.counts c.requires.merge.more c.requires.few c.requires.merge.serials c.requires.room begun (shape at) c.start_write.new.pass.possible in
-    joined_finishes (record { pairs = c.used_entries_follow_a_dict.ensures.first; elements = c.used_entries_follow_a_set.ensures.first }) k a.merge.now.o a.way a.own a.merge.now.t a.merge.now.table (a.merge.now.counts.fill + a.merge.now.more) a.merge.now.others counts v w (since_start a.merge.now.o v u w c.start_write.result begun only) c.requires.pass.1 may.keyed.container may.left a.called.now c.requires.joins c.requires.few
+    joined_finishes (record { pairs = c.used_entries_follow_a_dict.ensures.first; elements = c.used_entries_follow_a_set.ensures.first }) k a.merge.now.o a.way a.own a.merge.now.t a.merge.now.table (a.merge.now.counts.fill + a.merge.now.more) a.merge.now.others counts v w (since_start a.merge.now.o v u w c.start_write.result begun only) c.requires.pass.1 may.keyed.container may.left may.boxes.stored a.called.now c.requires.joins c.requires.few
     (λ found class has owed. absurd (omega (arith, none, owed)))
     (stays_table (known_state a.merge.now.o v) (known_state a.merge.now.t v).content a.own a.merge.now.counts.fill a.merge.now.more table c.requires.room c.requires.merge.more (class_is a.own (may.keyed.table_in a.own refl).2))
     (subst (λ (z : ContainerState × ContainerState). IsJoining k a.merge.now.o a.way a.own a.merge.now.t a.merge.now.table (joined z.0.content z.1.content) (a.merge.now.counts.fill + a.merge.now.more) a.merge.now.others counts w) (λ i. (ap (known_state a.merge.now.o) begun i, ap (known_state a.merge.now.t) begun i)) joining)

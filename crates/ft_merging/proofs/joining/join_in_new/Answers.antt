@@ -20,7 +20,6 @@ use Rattle.ft_new_keys.proofs.FinishedKeys.{since_root}
 use Rattle.ft_new_keys.proofs.Grown.{filled_has, grow_filled, grown_wrote, knows_filled, same_filled, words_filled}
 use Rattle.ft_new_keys.proofs.Keyed.{counts_known}
 use Rattle.ft_new_keys.proofs.Placed.{refs_then}
-use Rattle.ft_search.proofs.Puts.{same_done}
 use Rattle.ft_merging.specs.Joining.{JoinsKeys, join_takes, joined}
 use Rattle.ft_merging.specs.Merging.{MayMerge}
 use Rattle.ft_merging.specs.Internal.JoiningSteps.{IsJoining}
@@ -172,7 +171,7 @@ join_table-requires-clause-finishes c w counts_then only joining =
     let all = many_joined k a.way a.merge.now.t a.merge.now.table (view a.pass.now) (source b) (known_state a.merge.now.o (view a.pass.now)).content (kinds b) in
     let long : length_of (joined (known_state a.merge.now.o x).content (known_state a.merge.now.t x).content) ≡ a.merge.now.counts.count + a.merge.now.more = (λ i. length_of (joined ((same f).1 i).content (other f i).content)) ∙ omega (arith, n, m, all) in
     joined_finishes (record { pairs = c.used_entries_follow_a_dict.ensures.first; elements = c.used_entries_follow_a_set.ensures.first }) k a.merge.now.o a.way a.new a.merge.now.t a.merge.now.table (a.merge.now.counts.count + a.merge.now.more) a.merge.now.others counts_then x w
-    (since_root a.merge.now.o (table_id a.new) (root_in (held_words a.merge.now.o x)) x begun.rooted w begun.found begun.is (written_then a.merge.now.o begun.rooted y w begun.only (written_then a.merge.now.o y z w (counted_only p) only))) c.fill.ensures.pass.1 c.requires.may.keyed.container (grow f).left a.called.now (joins f) (cap f)
+    (since_root a.merge.now.o (table_id a.new) (root_in (held_words a.merge.now.o x)) x begun.rooted w begun.found begun.is (written_then a.merge.now.o begun.rooted y w begun.only (written_then a.merge.now.o y z w (counted_only p) only))) c.fill.ensures.pass.1 c.requires.may.keyed.container (grow f).left (grow f).boxes.stored a.called.now (joins f) (cap f)
     (λ found class has owed.
     let is : class_of (table_id a.new) ≡ class = omega (arith, owed, owes) in
     (joins f).takes found has ∙ (takes f ∙ ap (λ (q : ℕ). Some q) is))
@@ -204,6 +203,8 @@ pub returns-clause-references : goal.returns-clause-references
 returns-clause-references c =
     let a = c.args in
     let v = view a.pass.now in
+    let x = view c.fill.new.pass in
+    let y = view c.begin_in.new.pass in
     let z = view c.put_counts.new.pass in
-    let e = c.put_counts.ensures in
-    refs_then v z (view c.join_table.new.pass) (same_done (shape_of a.bank.now) v z c.requires.pass.1 e.pass.1 c.requires.may.boxes e.writes.boxes) c.join_table.ensures.references
+    let begun = refs_then v x y c.fill.ensures.only.references c.begin_in.ensures.references in
+    refs_then v z (view c.join_table.new.pass) (refs_then v y z begun c.put_counts.ensures.references) c.join_table.ensures.references

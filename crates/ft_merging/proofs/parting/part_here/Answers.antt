@@ -8,11 +8,13 @@ use Rattle.ft_model.specs.Worlds.{set_of}
 use Rattle.ft_layout.specs.Containers.{IsSetWords}
 use Rattle.ft_keys.specs.declared.walk.Way.TheVariants as way
 use Rattle.ft_trace.specs.declared.View.{View}
+use Rattle.ft_trace.specs.Boxes.{references_held}
 use Rattle.ft_trace.specs.Addresses.{class_of}
 use Rattle.ft_trace.specs.Holds.{held_unboxed, known_state}
 use Rattle.ft_trace.specs.Kinds.{rows}
 use Rattle.ft_trace.specs.ContainerStates.{ContainerState}
 use Rattle.ft_bank.specs.Passes.{shape_of, view}
+use Rattle.ft_bank.specs.SameBoxes.{SameReferences}
 use Rattle.ft_bank.specs.TableNames.{table_id}
 use Rattle.ft_bank.specs.Whole.{OnlyWritten}
 use Rattle.ft_bank.proofs.TableAddresses.{class_is}
@@ -20,7 +22,7 @@ use Rattle.ft_bank.proofs.KnownAfterWrites.{work_knows, written_then}
 use Rattle.ft_search.specs.OneEntryWrites.{HasTable, KnowsEntries, MayWriteEntries}
 use Rattle.ft_search.proofs.Changing.{kind_is}
 use Rattle.ft_search.proofs.ReadyCommits.{whole_root, whole_write}
-use Rattle.ft_search.proofs.Puts.{same_done, table_class}
+use Rattle.ft_search.proofs.Puts.{table_class}
 use Rattle.ft_new_keys.specs.KeyGrowth.{keys_take}
 use Rattle.ft_new_keys.proofs.Keyed.{use_known}
 use Rattle.ft_new_keys.proofs.Placed.{refs_then, use_with}
@@ -217,10 +219,9 @@ returns-clause-root c =
 pub returns-clause-references : goal.returns-clause-references
 returns-clause-references c =
     let a = c.args in
-    let at = goal.at.returns-clause-references c in
-    let d = at.After-start_write in
-    let b = at.After-join_all in
     let v = view a.pass.now in
+    let s = view c.start_write.new.pass in
+    let j = view c.join_all.new.pass in
     let u = view c.thin_all.new.pass in
-    let th = c.thin_all.ensures.thinned (to b) (begins b (may d) (has d) (table_is d)) in
-    refs_then v u (view c.finish_entries.new.pass) (same_done (shape_of a.bank.now) v u c.requires.pass.1 c.thin_all.ensures.pass.1 c.requires.may.boxes th.midway.writes.boxes) c.finish_entries.ensures.references
+    let begun : SameReferences v s = λ b. ap (λ (z : View). references_held z.shape b z.log) c.start_write.ensures.1 in
+    refs_then v u (view c.finish_entries.new.pass) (refs_then v j u (refs_then v s j begun c.join_all.ensures.references) c.thin_all.ensures.references) c.finish_entries.ensures.references

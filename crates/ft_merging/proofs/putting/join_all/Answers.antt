@@ -8,7 +8,7 @@ use Rattle.ft_merging.proofs.JoinedReads.{knows_put}
 use Rattle.ft_merging.proofs.putting.join_all.Goals as goal
 
 pub loop-place-init : goal.loop-place-init
-loop-place-init c = record { pass = c.requires.pass; stack = refl; only = put_written c.args.o (view c.args.pass.now) (view c.args.pass.now) (put_same (view c.args.pass.now) c.args.o); joining = c.requires.joining; more = omega arith; keeps = λ sets p w less few. refl }
+loop-place-init c = record { pass = c.requires.pass; stack = refl; only = put_written c.args.o (view c.args.pass.now) (view c.args.pass.now) (put_same (view c.args.pass.now) c.args.o); joining = c.requires.joining; references = λ b. refl; more = omega arith; keeps = λ sets p w less few. refl }
 
 pub join_at-counts-requires-clause-other : goal.join_at-counts-requires-clause-other
 join_at-counts-requires-clause-other c =
@@ -44,6 +44,7 @@ loop-place-preserved c =
       stack = e.stack ∙ i.stack;
       only = written_then a.o v u (view c.join_at-counts.new.pass) i.only e.only;
       joining = subst (λ (z : ContainerState × ContainerState). IsJoining (shape_of a.bank.now) a.o a.way a.own a.t a.table (joined z.0.content z.1.content) a.end (c.loop-place.place + 1) c.join_at-counts.result (view c.join_at-counts.new.pass)) (λ d. (work_knows v u a.o w d, work_knows v u a.t w d)) e.joining;
+      references = λ b. e.references b ∙ i.references b;
       more = let m = i.more in let n = e.more in omega (arith, m, n);
       keeps = λ sets p w less few. let m = i.more in e.keeps sets p w (omega (arith, less, m)) few ∙ i.keeps sets p w less few;
     }

@@ -3,6 +3,7 @@ use Rattle.ft_model.specs.declared.script.Kind.TheVariants as kind
 use Rattle.ft_trace.specs.Holds.{held_unboxed, known_state}
 use Rattle.ft_bank.specs.Passes.{shape_of, view, IsPassOf}
 use Rattle.ft_bank.specs.PassSections.{stack_of}
+use Rattle.ft_bank.specs.SameBoxes.{SameReferences}
 use Rattle.ft_bank.specs.TableNames.{table_id}
 use Rattle.ft_bank.specs.Whole.{OnlyWritten}
 use Rattle.ft_search.specs.Rounds.{kind_by}
@@ -16,6 +17,7 @@ invariant-loop-place l = record {
   stack : stack_of l.pass ≡ stack_of l.initial.pass;
   only : OnlyWritten l.o (view l.initial.pass) (view l.pass);
   joining : IsJoining (shape_of l.bank) l.o l.way l.own l.t l.table (joined (known_state l.o (view l.initial.pass)).content (known_state l.t (view l.initial.pass)).content) l.end l.place l.counts (view l.pass);
+  references : SameReferences (view l.initial.pass) (view l.pass);
   more : l.fn.first.fill ≤ l.counts.fill;
   keeps : kind_by l.way ≡ kind.Set → KeepsBelow (table_id l.own) l.fn.first.fill (held_unboxed l.o (view l.initial.pass)) (held_unboxed l.o (view l.pass));
 }

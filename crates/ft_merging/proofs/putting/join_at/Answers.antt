@@ -131,6 +131,9 @@ returns-in_default-clause-joining c =
     joining_loaded k a.o a.way a.own a.t a.table _ a.end (a.place + 1) a.counts v (view c.pair_at.new.pass) c.requires.pass.1 c.pair_at.ensures.only c.requires.other
     (joining_dead k a.o a.way a.own a.t a.table _ a.end a.place a.counts v j c.requires.place any dead)
 
+pub returns-in_default-clause-references : goal.returns-in_default-clause-references
+returns-in_default-clause-references c = c.pair_at.ensures.only.boxes.references
+
 pub returns-in_default-clause-keeps : goal.returns-in_default-clause-keeps
 returns-in_default-clause-keeps c sets = same_below (table_id c.args.own) c.args.counts.fill (view c.args.pass.now) (view c.pair_at.new.pass) c.args.o (read_on (goal.at.returns-in_default-clause-keeps c).After-pair_at)
 
@@ -174,6 +177,9 @@ returns-in-Bare-clause-only c = put_written c.args.o (view c.args.pass.now) (vie
 
 pub returns-in-Bare-clause-joining : goal.returns-in-Bare-clause-joining
 returns-in-Bare-clause-joining c = let at = goal.at.returns-in-Bare-clause-joining c in absurd (came at.After-seek_in c.in-Some.pair.key spot.Bare c.in-Bare.ensures.spot)
+
+pub returns-in-Bare-clause-references : goal.returns-in-Bare-clause-references
+returns-in-Bare-clause-references c = (loads (goal.at.returns-in-Bare-clause-references c).After-seek_in).boxes.references
 
 pub returns-in-Bare-clause-keeps : goal.returns-in-Bare-clause-keeps
 returns-in-Bare-clause-keeps c sets = same_below (table_id c.args.own) c.args.counts.fill (view c.args.pass.now) (view c.seek_in.new.pass) c.args.o (held_on (goal.at.returns-in-Bare-clause-keeps c).After-seek_in)
@@ -253,6 +259,9 @@ returns-in-At-clause-joining c =
     let other = (only.others a.t (subst (λ (y : Shape). a.t < container_count y) (sym c.requires.pass.1) c.requires.other.container) (λ eq. c.requires.two (sym eq)) c.requires.other.locked c.requires.other.even).1 in
     let words : held_unboxed a.o z ≡ with_puts (held_unboxed a.o v) (stored_puts n (held_unboxed a.o v).table c.in-At.at stored) = e.words ∙ (λ i. with_puts (same i) (stored_puts n (same i).table c.in-At.at stored)) in
     joining_there k a.o a.way a.own a.t a.table (done d.After-words_follow_a_set) a.end a.place a.counts v c.requires.joining c.requires.place any c.in-Some.pair.key stored p.1 p.0 (value_laws d.After-words_follow_a_set) p.3 p.4 c.in-At.at f.0 f.1 f.2 z only words e.writes other
+
+pub returns-in-At-clause-references : goal.returns-in-At-clause-references
+returns-in-At-clause-references c b = c.put_stored.ensures.references b ∙ (loads (goal.at.returns-in-At-clause-references c).After-seek_in).boxes.references b
 
 -- an element of a set has no value, and so nothing is put
 no_puts : (stored : Stored) → StoresAs kind.Set stored → (n place : ℕ) (x : ContainerWords) → with_puts x (stored_puts n x.table place stored) ≡ x
@@ -357,3 +366,6 @@ returns-in-Free-clause-only c =
     let v = view c.args.pass.now in
     let u = view c.seek_in.new.pass in
     written_then c.args.o v u (view c.put_key.new.pass) (put_written c.args.o v u (loaded_put v u c.args.o (loads (goal.at.returns-in-Free-clause-only c).After-seek_in))) c.put_key.ensures.only
+
+pub returns-in-Free-clause-references : goal.returns-in-Free-clause-references
+returns-in-Free-clause-references c b = c.put_key.ensures.references b ∙ (loads (goal.at.returns-in-Free-clause-references c).After-seek_in).boxes.references b

@@ -1,5 +1,4 @@
-use Rattle.ft_bank.specs.Passes.{shape_of, view}
-use Rattle.ft_search.proofs.Puts.{same_done}
+use Rattle.ft_bank.specs.Passes.{view}
 use Rattle.ft_new_keys.proofs.Placed.{refs_then}
 use Rattle.ft_merging.proofs.putting.join_table.Goals as goal
 
@@ -14,7 +13,4 @@ returns-clause-ends c = (view c.join_all.new.pass, c.join_all.ensures.only, c.jo
 
 pub returns-clause-references : goal.returns-clause-references
 returns-clause-references c =
-    let v = view c.args.pass.now in
-    let u = view c.join_all.new.pass in
-    let e = c.join_all.ensures in
-    refs_then v u (view c.finish_entries.new.pass) (same_done (shape_of c.args.bank.now) v u c.requires.pass.1 e.pass.1 c.requires.joining.midway.writes.boxes e.joining.midway.writes.boxes) c.finish_entries.ensures.references
+    refs_then (view c.args.pass.now) (view c.join_all.new.pass) (view c.finish_entries.new.pass) c.join_all.ensures.references c.finish_entries.ensures.references

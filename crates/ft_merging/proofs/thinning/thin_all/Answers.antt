@@ -8,7 +8,7 @@ use Rattle.ft_merging.proofs.ThinningEnds.{other_stays}
 use Rattle.ft_merging.proofs.thinning.thin_all.Goals as goal
 
 pub loop-place-init : goal.loop-place-init
-loop-place-init c = record { pass = c.requires.pass; stack = refl; only = put_written c.args.s (view c.args.pass.now) (view c.args.pass.now) (put_same (view c.args.pass.now) c.args.s); thinned = λ to th. th }
+loop-place-init c = record { pass = c.requires.pass; stack = refl; only = put_written c.args.s (view c.args.pass.now) (view c.args.pass.now) (put_same (view c.args.pass.now) c.args.s); references = λ b. refl; thinned = λ to th. th }
 
 pub thin_at-requires-clause-other : goal.thin_at-requires-clause-other
 thin_at-requires-clause-other c ne =
@@ -41,5 +41,6 @@ loop-place-preserved c =
       pass = e.pass;
       stack = e.stack ∙ i.stack;
       only = written_then a.s v u (view c.thin_at.new.pass) i.only e.only;
+      references = λ b. e.references b ∙ i.references b;
       thinned = λ to th. subst (λ (z : ContainerState × ContainerState). IsThinned (shape_of a.bank.now) a.s a.table a.kept (set_of z.0.content) (set_of z.1.content) to a.fill c.loop-place.place u → IsThinned (shape_of a.bank.now) a.s a.table a.kept (set_of z.0.content) (set_of z.1.content) to a.fill (c.loop-place.place + 1) (view c.thin_at.new.pass)) (λ d. (work_knows v u a.t w d, work_knows v u a.s w d)) (e.thinned to a.fill low) (i.thinned to th);
     }

@@ -1,4 +1,4 @@
-use Rattle.std.proofs.Common.{◌≡◌, ℕ, ◌+◌, Option, Some, None, refl, sym, subst}
+use Rattle.std.proofs.Common.{◌≡◌, ℕ, ◌+◌, Option, Some, None, refl, sym, ◌∙◌, subst}
 use Rattle.ft_model.specs.declared.data.Key.{Key}
 use Rattle.ft_model.specs.Worlds.{set_of}
 use Rattle.ft_trace.specs.Addresses.{class_of, slots}
@@ -110,6 +110,12 @@ returns-in_default-clause-thinned c to last low th =
     let first = set_of (known_state a.s v).content in
     thinned_loaded (shape_of a.bank.now) a.s a.table a.kept others first to last (a.place + 1) v (view c.goes_at.new.pass) c.requires.pass.1 c.goes_at.ensures.only
     (thinned_stays (shape_of a.bank.now) a.s a.table a.kept others first to last a.place v c.requires.set th (λ key ok is. spared_stays a.kept others first key (c.goes_at.ensures.stays (none_goes c.goes_at.result c.in_default.not-Some) key ok is)))
+
+pub returns-in-Some-clause-references : goal.returns-in-Some-clause-references
+returns-in-Some-clause-references c b = c.put_deleted.ensures.references b ∙ c.goes_at.ensures.only.boxes.references b
+
+pub returns-in_default-clause-references : goal.returns-in_default-clause-references
+returns-in_default-clause-references c = c.goes_at.ensures.only.boxes.references
 
 pub returns-in-Some-clause-only : goal.returns-in-Some-clause-only
 returns-in-Some-clause-only c =

@@ -1,15 +1,17 @@
 use Rattle.std.proofs.Common.{◌≡◌, ◌≤◌, ℕ, sym, ap, ◌∙◌, subst, arith}
 use Rattle.ft_model.specs.declared.script.Kind.{Kind}
 use Rattle.ft_model.specs.Classes.{set_entries}
+use Rattle.ft_trace.specs.declared.View.{View}
 use Rattle.ft_trace.specs.Addresses.{class_of}
+use Rattle.ft_trace.specs.Boxes.{references_held}
 use Rattle.ft_trace.specs.Kinds.{rows}
+use Rattle.ft_bank.specs.SameBoxes.{SameReferences}
 use Rattle.ft_bank.specs.TableNames.{table_id}
 use Rattle.ft_model.specs.declared.reply.Reply.TheVariants as reply
 use Rattle.ft_model.specs.Worlds.{set_of}
 use Rattle.ft_trace.specs.Holds.{known_state}
 use Rattle.ft_trace.specs.ContainerStates.{ContainerState}
 use Rattle.ft_bank.specs.Passes.{shape_of, view}
-use Rattle.ft_search.proofs.Puts.{same_done}
 use Rattle.ft_search.proofs.Spotting.{may_knows}
 use Rattle.ft_search.proofs.ReadyCommits.{whole_root, whole_write}
 use Rattle.ft_new_keys.proofs.Placed.{refs_then}
@@ -72,9 +74,10 @@ pub returns-clause-references : goal.returns-clause-references
 returns-clause-references c =
     let a = c.args in
     let v = view a.pass.now in
+    let s = view c.start_write.new.pass in
     let u = view c.thin_all.new.pass in
-    let ends = (c.thin_all.ensures.thinned (thinned_state a.kept (known_state a.t v) (known_state a.s v)) (begins (goal.at.returns-clause-references c).After-start_write)).midway in
-    refs_then v u (view c.finish_entries.new.pass) (same_done (shape_of a.bank.now) v u c.requires.pass.1 c.thin_all.ensures.pass.1 c.requires.may.boxes ends.writes.boxes) c.finish_entries.ensures.references
+    let begun : SameReferences v s = λ b. ap (λ (z : View). references_held z.shape b z.log) c.start_write.ensures.1 in
+    refs_then v u (view c.finish_entries.new.pass) (refs_then v s u begun c.thin_all.ensures.references) c.finish_entries.ensures.references
 
 pub returns-clause-root : goal.returns-clause-root
 returns-clause-root c =

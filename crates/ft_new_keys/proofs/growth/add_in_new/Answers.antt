@@ -20,7 +20,6 @@ use Rattle.ft_bank.proofs.TableAddresses.{class_is}
 use Rattle.ft_bank.proofs.KnownAfterWrites.{loaded_put, put_written, written_then}
 use Rattle.ft_trace.specs.Acts.{has_committed}
 use Rattle.ft_trace.proofs.Cases.{hit}
-use Rattle.ft_search.proofs.Puts.{same_done, writes_on}
 use Rattle.ft_search.specs.Held.{IsHeldAt}
 use Rattle.ft_search.specs.Rounds.{kind_by}
 use Rattle.ft_search.specs.OneEntryWrites.{Leaves, WritesEntries}
@@ -203,7 +202,7 @@ finish_entry-requires-clause-may c =
     let leaves : Leaves a.o a.called.now a.said.now (record { content = with_key content a.key a.stored; table = use_with (class_of t) (a.counts.count + 1) }) x =
     subst (λ (z : Content × ℕ). Leaves a.o a.called.now a.said.now (record { content = with_key z.0 a.key a.stored; table = use_with (class_of t) (z.1 + 1) }) x) (λ i. (sym (ap (λ (z : ContainerState). z.content) (same d).1) i, (ap (λ (z : ContainerState). length_of z.content) (sym (same d).1) ∙ sym many) i))
     (leaves_filled a.o a.called.now a.said.now _ v x c.fill.ensures.only first) in
-    key_finishes a.o x u (since_root a.o t (root_in (held_words a.o x)) x b.rooted u b.found b.is (written_then a.o b.rooted y u b.only (puts p))) k a.table a.counts.count a.called.now a.said.now _ leaves c.fill.ensures.pass.1 c.requires.may.keyed.container (grow d).left
+    key_finishes a.o x u (since_root a.o t (root_in (held_words a.o x)) x b.rooted u b.found b.is (written_then a.o b.rooted y u b.only (puts p))) k a.table a.counts.count a.called.now a.said.now _ leaves c.fill.ensures.pass.1 c.requires.may.keyed.container (grow d).left (grow d).boxes.stored
     (λ found class has owed.
     let owes = (grow d).owed in
     let is : class_of t ≡ class = omega (arith, owed, owes) in
@@ -226,9 +225,13 @@ returns-clause-wrote c =
 pub returns-clause-references : goal.returns-clause-references
 returns-clause-references c =
     let v = view c.args.pass.now in
+    let x = view c.fill.new.pass in
+    let y = view c.begin_in.new.pass in
+    let z = view c.free_slot-slot.new.pass in
     let u = view c.put_key.new.pass in
-    let e = c.put_key.ensures in
-    refs_then v u (view c.finish_entry.new.pass) (same_done (shape_of c.args.bank.now) v u c.requires.pass.1 e.pass.1 c.requires.may.boxes e.writes.boxes) c.finish_entry.ensures.references
+    let begun = refs_then v x y c.fill.ensures.only.references c.begin_in.ensures.references in
+    let put = refs_then y z u c.free_slot-slot.ensures.only.boxes.references c.put_key.ensures.references in
+    refs_then v u (view c.finish_entry.new.pass) (refs_then v y u begun put) c.finish_entry.ensures.references
 
 pub returns-clause-root : goal.returns-clause-root
 returns-clause-root c =

@@ -9,7 +9,7 @@ use Rattle.ft_bank.specs.Whole.{OnlyWritten}
 use Rattle.ft_bank.proofs.KnownAfterWrites.{put_written, written_then}
 use Rattle.ft_search.proofs.WordPlaces.{slots_is}
 use Rattle.ft_search.proofs.Boxing.{table_of}
-use Rattle.ft_search.proofs.Puts.{few_done, few_slots}
+use Rattle.ft_search.proofs.Puts.{few_slots}
 use Rattle.ft_new_keys.proofs.NewEntryPuts.{few_used, pair_open, pair_opens, pair_stores, pair_allowed}
 use Rattle.ft_new_keys.proofs.placing.put_pair.Goals as goal
 use Rattle.ft_new_keys.proofs.placing.put_pair.Goals.{After-mask_of-mask}
@@ -84,7 +84,7 @@ place_in-requires-clause-may c =
     let p = c.put_unboxed.ensures in
     let d = (goal.at.place_in-requires-clause-may c).After-mask_of-mask in
     pair_allowed _ k (held_unboxed a.o (view a.pass.now)) a.slot a.place a.pair.now p.pass.1 p.writes.container p.writes.table_in r.writes.keyed (size d)
-    (p.writes.locked, p.writes.root) (p.only.work.committed a.o ∙ (r.only.work.committed a.o ∙ c.requires.early)) (few_done k (view c.put_unboxed.new.pass) p.pass.1 p.writes.boxes)
+    (p.writes.locked, p.writes.root) (p.only.work.committed a.o ∙ (r.only.work.committed a.o ∙ c.requires.early)) p.writes.few
     (λ four. p.raw (ap (slice_index (held_words a.o (view c.put_unboxed.new.pass)).table) (word_is d) ∙ four)) c.requires.value.1 (p.words ∙ r.words) c.requires.unused
 
 pub returns-clause-only : goal.returns-clause-only

@@ -1,16 +1,17 @@
-use Rattle.std.proofs.Common.{◌≡◌, ℕ, ◌+◌, ◌^◌, ◌<◌, [], Some, sym, ◌∙◌, subst, arith}
+use Rattle.std.proofs.Common.{◌≡◌, ℕ, ◌+◌, ◌^◌, ◌<◌, [], Some, sym, ap, ◌∙◌, subst, arith}
 use Rattle.ft_model.specs.declared.script.Kind.{Kind}
 use Rattle.ft_trace.specs.declared.View.{View}
 use Rattle.ft_trace.specs.Addresses.{class_of, slots}
+use Rattle.ft_trace.specs.Boxes.{references_held}
 use Rattle.ft_trace.specs.Holds.{held_unboxed, known_state}
 use Rattle.ft_trace.specs.Kinds.{rows}
 use Rattle.ft_trace.specs.Pictures.{ContainerWords}
 use Rattle.ft_trace.specs.ContainerStates.{kind_in}
 use Rattle.ft_bank.specs.Passes.{shape_of, view}
+use Rattle.ft_bank.specs.SameBoxes.{SameReferences}
 use Rattle.ft_bank.specs.TableNames.{table_id}
 use Rattle.ft_search.proofs.Changing.{Changing, kind_is}
 use Rattle.ft_search.specs.Rounds.{kind_by}
-use Rattle.ft_search.proofs.Puts.{same_done}
 use Rattle.ft_search.proofs.ReadyCommits.{whole_write}
 use Rattle.ft_new_keys.specs.KeyGrowth.{KnowsKeyed}
 use Rattle.ft_new_keys.specs.Placing.{with_key}
@@ -72,7 +73,7 @@ finish_entry-requires-clause-may c =
     let begun = c.start_write.ensures.1 in
     let words : with_entry t a.slot a.counts (pair_for k.texts (known_state a.o v).content a.key a.stored) (held_unboxed a.o v) ≡ held_unboxed a.o u = (λ i. with_entry t a.slot a.counts (pair d i) (held_unboxed a.o (sym begun i))) ∙ sym e.words in
     let none = c.requires.may.owes in
-    key_finishes a.o v u (since_start a.o v (view c.start_write.new.pass) u c.start_write.result begun e.only) k a.table a.counts.fill a.called.now a.said.now _ c.requires.leaves c.requires.pass.1 c.requires.may.container c.requires.may.left
+    key_finishes a.o v u (since_start a.o v (view c.start_write.new.pass) u c.start_write.result begun e.only) k a.table a.counts.fill a.called.now a.said.now _ c.requires.leaves c.requires.pass.1 c.requires.may.container c.requires.may.left c.requires.may.boxes.stored
     (λ found class has owed. absurd (omega (arith, none, owed)))
     (kind_is k v a.o c.requires.pass.1 a.pass.now.possible c.requires.may.locked) (known_state a.o v).table
     (subst (λ (x : ContainerWords). Changing k.texts t x (known_state a.o v) a.counts.fill [] (record { content = with_key (known_state a.o v).content a.key a.stored; table = use_with (class_of t) (a.counts.fill + 1) })) words
@@ -84,11 +85,11 @@ put_key-requires-clause-value c = (c.requires.value, stores_plain (kind_by c.arg
 
 pub returns-clause-references : goal.returns-clause-references
 returns-clause-references c =
-    let k = shape_of c.args.bank.now in
     let v = view c.args.pass.now in
+    let s = view c.start_write.new.pass in
     let u = view c.put_key.new.pass in
-    let e = c.put_key.ensures in
-    refs_then v u (view c.finish_entry.new.pass) (same_done k v u c.requires.pass.1 e.pass.1 c.requires.may.boxes e.writes.boxes) c.finish_entry.ensures.references
+    let begun : SameReferences v s = λ b. ap (λ (z : View). references_held z.shape b z.log) c.start_write.ensures.1 in
+    refs_then v u (view c.finish_entry.new.pass) (refs_then v s u begun c.put_key.ensures.references) c.finish_entry.ensures.references
 
 pub returns-clause-wrote : goal.returns-clause-wrote
 returns-clause-wrote c =

@@ -3,7 +3,7 @@ use Rattle.ft_trace.specs.declared.View.{View}
 use Rattle.ft_trace.specs.Holds.{held_unboxed}
 use Rattle.ft_trace.specs.Pictures.{root_in}
 use Rattle.ft_bank.specs.Passes.{shape_of, view}
-use Rattle.ft_replacing.proofs.Swaps.{Swapping, committed_u, may_put_none, may_put_table, odd_rooted, odd_u, old_held, old_out, old_shared, root_u, shut_u, stands_u, swapping_commits, swapping_references, swapping_wrote}
+use Rattle.ft_replacing.proofs.Swaps.{Swapping, committed_u, may_put_none, may_put_table, odd_rooted, odd_u, old_held, old_out, old_settled, root_u, shut_u, stands_u, swapping_commits, swapping_references, swapping_wrote}
 use Rattle.ft_replacing.proofs.swapping.swap_table.Goals as goal
 use Rattle.ft_replacing.proofs.swapping.swap_table.Goals.{After-drop_old}
 
@@ -16,9 +16,9 @@ pub drop_old-requires-clause-out : goal.drop_old-requires-clause-out
 drop_old-requires-clause-out c =
     old_out c.words_are_of_one_content.ensures.head (shape_of c.args.bank.now) c.args.o c.args.old c.args.table c.start_write.result (view c.args.pass.now) (view c.start_write.new.pass) (view c.put_root.new.pass) c.requires.pass.1 c.requires.may c.start_write.ensures.1 c.put_root.ensures.did.1 c.put_root.ensures.unboxed c.put_root.ensures.moves
 
-pub drop_old-requires-clause-shared : goal.drop_old-requires-clause-shared
-drop_old-requires-clause-shared c =
-    old_shared c.words_are_of_one_content.ensures.head (shape_of c.args.bank.now) c.args.o c.args.old c.args.table c.start_write.result (view c.args.pass.now) (view c.start_write.new.pass) (view c.put_root.new.pass) c.requires.pass.1 c.requires.may c.start_write.ensures.1 c.put_root.ensures.did.1 c.put_root.ensures.unboxed c.put_root.ensures.moves
+pub drop_old-requires-clause-settled : goal.drop_old-requires-clause-settled
+drop_old-requires-clause-settled c =
+    old_settled c.words_are_of_one_content.ensures.head (shape_of c.args.bank.now) c.args.o c.args.old c.args.table c.start_write.result (view c.args.pass.now) (view c.start_write.new.pass) (view c.put_root.new.pass) c.requires.pass.1 c.requires.may c.start_write.ensures.1 c.put_root.ensures.did.1 c.put_root.ensures.unboxed c.put_root.ensures.moves
 
 pub drop_old-requires-clause-held : goal.drop_old-requires-clause-held
 drop_old-requires-clause-held c =
@@ -42,7 +42,7 @@ swapping c = record {
   moves = c.put_root.ensures.moves;
   drops = c.drop_old.ensures.only;
   made = c.drop_old.ensures.made;
-  none = c.drop_old.ensures.none;
+  dropped = c.drop_old.ensures.references;
 }
 
 pub commit-number-requires-clause-may : goal.commit-number-requires-clause-may

@@ -23,3 +23,9 @@ loop-preserved c =
       ap length items ∙ (length_push c.loop.notes.items c.note-note.result ∙ ap (λ (n : ℕ). n + 1) inv.1),
       All-same For _ (c.loop.notes.items ++ c.note-note.result ∷ []) items (All-push For c.loop.notes.items c.note-note.result inv.2 tells),
     )
+
+pub returns-in_err-push-clause-noted : goal.returns-in_err-push-clause-noted
+returns-in_err-push-clause-noted c =
+    let made = c.note-note.ensures in
+    noted_then c.args.engine.now c.args.caller.now c.loop.caller c.note-note.new.caller c.loop.invariant.0
+    (record { caller = made.caller; same = made.same; announced = made.announced; presence = made.presence; kept = made.kept })

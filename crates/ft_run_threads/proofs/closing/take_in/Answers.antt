@@ -29,4 +29,4 @@ returns-clause-taken c =
     let worked = subst (λ (n : ℕ). HasWorked e script n w) (sym (length-map before items)) c.requires.worker in
     let done : IsTrue w.done = not_not w.done c.if-not-worker.false in
     subst (HasTakenIn e script d) (sym same)
-    (next_taken e script c.args.caller.now d w (map items before) c.requires.taken worked done x.caller x.thread x.idle x.announced x.sections x.parts x.kept x.online)
+    (next_taken e script c.args.caller.now d w (map items before) c.requires.taken worked done x.caller x.thread x.idle x.announced x.merged x.sections x.parts x.kept x.online)

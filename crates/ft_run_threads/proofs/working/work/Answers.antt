@@ -14,7 +14,7 @@ returns-then-make_own g c =
     let script = c.args.script.now in
     let i = c.args.thread in
     let x = c.leave.ensures in
-    worked c.args.engine.now script i (calls_of script i) c.make_own.new.worker _ refl (ends_level script i c.parts-parts.ensures.rule) (c.make_own.ensures.made c.if-make_own.true).0 x.same x.caller refl x.kept x.offline (x.presence (c.make_own.ensures.made c.if-make_own.true).2)
+    worked c.args.engine.now script i (calls_of script i) c.make_own.new.worker _ refl (ends_level script i c.parts-parts.ensures.rule) (c.make_own.ensures.made c.if-make_own.true).0 x.same x.caller refl x.kept x.offline x.merged (x.presence (c.make_own.ensures.made c.if-make_own.true).2)
 
 pub returns-else-make_own : goal.returns-else-make_own
 returns-else-make_own g c =

@@ -45,7 +45,7 @@ returns-clause-taken c =
     let is = subst (IsEndSeat e script (length lists)) c.in-Some.is end in
     let same : vec_lists c.push.new.self.items ≡ lists ++ s.entries.items ∷ [] = ap (map items) c.in_ok-push.ensures.items ∙ map-append items before (s.entries ∷ []) in
     subst (HasTakenIn e script d) (sym same)
-    (end_taken e script c.args.caller.now d s lists c.requires.script c.requires.taken is.0 is.1 x.caller x.thread x.idle x.announced x.sections x.parts x.kept x.online)
+    (end_taken e script c.args.caller.now d s lists c.requires.script c.requires.taken is.0 is.1 x.caller x.thread x.idle x.announced x.merged x.sections x.parts x.kept x.online)
 
 pub returns-clause-floor : goal.returns-clause-floor
 returns-clause-floor c has = c.join_resting.ensures.floor.floor ∙ has

@@ -4,8 +4,8 @@ use Rattle.std.proofs.lemmas.List.{length_push}
 use Rattle.ft_bank.specs.Passes.{view}
 use Rattle.ft_engine.specs.Callers.{pass_of}
 use Rattle.ft_turn_laws.specs.Beginnings.{NoneOwns}
-use Rattle.ft_run_turns.specs.Internal.CallerSeats.{AreNewFrom, AreNewSeats, IsNewSeat, NobodyOwns}
-use Rattle.ft_run_turns.proofs.NewSeats.{new_push, no_thread, none_handed, rest_of}
+use Rattle.ft_run_turns.specs.Internal.CallerSeats.{AreNewFrom, AreNewSeats, IsNewCaller, IsNewSeat, NobodyOwns}
+use Rattle.ft_run_turns.proofs.NewSeats.{new_as, new_push, no_thread, none_handed, rest_of}
 use Rattle.ft_run_turns.proofs.seating.sit_all.Goals as goal
 
 pub wake-caller-requires-clause-resting : goal.wake-caller-requires-clause-resting
@@ -15,6 +15,16 @@ wake-caller-requires-clause-resting c =
     let n = length at.seats.items in
     let steps : into_iter_items at.other-iterator ≡ c.in-Some.other ∷ into_iter_items c.next.new.self = c.in-Some.ensures.steps.0 in
     rest_of e n c.in-Some.other (subst (AreNewFrom e n) steps at.invariant.3).0
+
+pub sit-seat-requires-in-loop-other-clause-caller : goal.sit-seat-requires-in-loop-other-clause-caller
+sit-seat-requires-in-loop-other-clause-caller c =
+    let at = c.loop-other in
+    let e = c.args.engine.now in
+    let n = length at.seats.items in
+    let steps : into_iter_items at.other-iterator ≡ c.in-Some.other ∷ into_iter_items c.next.new.self = c.in-Some.ensures.steps.0 in
+    let rest = (subst (AreNewFrom e n) steps at.invariant.3).0 in
+    let woken = c.wake-caller in
+    subst (λ k. IsNewCaller e k woken.result) (sym (c.len-in-loop-other.ensures ∙ at.seats.ok.0)) (new_as e n rest.caller woken.result rest.new (woken.ensures.same rest.caller rest.new.member.caller rest.rests) woken.ensures.caller)
 
 pub loop-other-init : goal.loop-other-init
 loop-other-init c =

@@ -29,7 +29,7 @@ returns-then-last-clause-between c =
     let await : c.args.call.now ≡ call.Await n.0.thread n.0.index = ap (λ (o : Option Call). unwrap_or o c.args.call.now) n.1 in
     let has : HasLearned e (call.Await n.0.thread n.0.index) a mine d after = subst (λ called. HasLearned e called a mine d after) await c.in_ok-learn_once.ensures in
     let x = c.leave.ensures in
-    learned_leaves e script i a d mine after n.0.thread n.0.index c.requires.between (c.requires.call ∙ n.1) has (c.requires.last.0 c.if-last.true) c.leave.new.caller x.same x.caller x.kept x.offline x.presence
+    learned_leaves e script i a d mine after n.0.thread n.0.index c.requires.between (c.requires.call ∙ n.1) has (c.requires.last.0 c.if-last.true) c.leave.new.caller x.same x.caller x.kept x.offline x.merged x.presence
 
 pub returns-then-last-clause-turn : goal.returns-then-last-clause-turn
 returns-then-last-clause-turn c =

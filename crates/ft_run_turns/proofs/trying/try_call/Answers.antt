@@ -21,7 +21,7 @@ returns-then-last-clause-between c =
     let called = c.args.call.now in
     let has : HasTried e called a mine d after true = subst (λ went. HasTried e called a mine d after went) c.if-ended.true c.in_ok-ended.ensures in
     let x = c.leave.ensures in
-    leaves_between e script i a d mine after called c.requires.between c.requires.call c.requires.other has (c.requires.last.0 c.if-last.true) c.leave.new.caller x.same x.caller x.kept x.offline x.presence
+    leaves_between e script i a d mine after called c.requires.between c.requires.call c.requires.other has (c.requires.last.0 c.if-last.true) c.leave.new.caller x.same x.caller x.kept x.offline x.merged x.presence
 
 pub returns-then-last-clause-turn : goal.returns-then-last-clause-turn
 returns-then-last-clause-turn c =

@@ -1,12 +1,13 @@
 use Rattle.std.proofs.Common.{◌≡◌, ◌+◌, sym, ◌∙◌, arith}
 use Rattle.std.specs.Prelude.{slice_index}
 use Rattle.ft_trace.specs.Holds.{held_words}
+use Rattle.ft_bank.specs.BoxSteps.{HasReferenceFor}
 use Rattle.ft_bank.specs.Passes.{shape_of, view}
 use Rattle.ft_bank.specs.TableNames.{table_id}
 use Rattle.ft_bank.specs.Whole.{OnlyLoaded}
-use Rattle.ft_search.proofs.Overs.{value_inside, word_inside, table_loaded, open_as, still_unboxed, same_writes, same_raw, same_words, both_writes, both_raw, both_words, over_only, box_shared, box_held, box_none, box_is, drop_only, drop_writes, drop_raw, drop_words}
+use Rattle.ft_search.proofs.Overs.{value_inside, word_inside, table_loaded, open_as, still_unboxed, here_open, here_writes, same_writes, same_raw, same_refs, same_words, both_writes, both_raw, both_refs, both_words, over_only, box_settled, box_held, box_is, drop_only, drop_refs, drop_writes, drop_raw, drop_words}
 use Rattle.ft_search.proofs.ValueLoads.{kind_load, kind_found, both_load, kind_stays, payload_found}
-use Rattle.ft_search.proofs.Puts.{few_done}
+use Rattle.ft_search.proofs.Owning.{own_loaded, reads_loaded}
 use Rattle.ft_search.proofs.boxed.put_over.Goals as goal
 use Rattle.ft_search.proofs.boxed.put_over.Goals.{After-read_word-old, After-read_word-named}
 
@@ -48,188 +49,174 @@ read_word-named-requires-clause-table c = c.requires.writes.table_in
 pub read_word-named-requires-clause-word : goal.read_word-named-requires-clause-word
 read_word-named-requires-clause-word c = value_inside (shape_of c.args.bank.now) c.args.o c.args.table c.args.word (view c.args.pass.now) c.requires.pass.1 c.requires.writes c.requires.open
 
+-- what the value is to be, once the words are loaded
+own_old : (c : After-read_word-old) → HasReferenceFor (view c.read_word-old.new.pass) c.args.kind c.args.payload
+own_old c = own_loaded (view c.args.pass.now) (view c.read_word-old.new.pass) c.args.kind c.args.payload c.args.pass.now.possible c.requires.own (load_old c)
+
 -- ---- the payload alone
 
 pub put_payload-requires-clause-container : goal.put_payload-requires-clause-container
 put_payload-requires-clause-container c =
-    let l = load_old (goal.at.put_payload-requires-clause-container c).After-read_word-old in
-    let u = view c.args.pass.now in
-    let k = shape_of c.args.bank.now in
-    let v = view c.read_word-old.new.pass in
-    let writes = table_loaded k c.args.o c.args.table u v c.requires.pass.1 c.requires.writes l in
-    writes.container
+    let d = (goal.at.put_payload-requires-clause-container c).After-read_word-old in
+    (table_loaded (shape_of c.args.bank.now) c.args.o c.args.table (view c.args.pass.now) (view c.read_word-old.new.pass) c.requires.pass.1 c.requires.writes (load_old d)).container
 
 pub put_payload-requires-clause-table : goal.put_payload-requires-clause-table
 put_payload-requires-clause-table c =
-    let l = load_old (goal.at.put_payload-requires-clause-table c).After-read_word-old in
-    let u = view c.args.pass.now in
-    let k = shape_of c.args.bank.now in
-    let v = view c.read_word-old.new.pass in
-    let writes = table_loaded k c.args.o c.args.table u v c.requires.pass.1 c.requires.writes l in
-    writes.table_in
+    let d = (goal.at.put_payload-requires-clause-table c).After-read_word-old in
+    (table_loaded (shape_of c.args.bank.now) c.args.o c.args.table (view c.args.pass.now) (view c.read_word-old.new.pass) c.requires.pass.1 c.requires.writes (load_old d)).table_in
 
 pub put_payload-requires-clause-odd : goal.put_payload-requires-clause-odd
 put_payload-requires-clause-odd c =
-    let l = load_old (goal.at.put_payload-requires-clause-odd c).After-read_word-old in
-    let u = view c.args.pass.now in
-    let k = shape_of c.args.bank.now in
-    let v = view c.read_word-old.new.pass in
-    let writes = table_loaded k c.args.o c.args.table u v c.requires.pass.1 c.requires.writes l in
-    writes.odd
+    let d = (goal.at.put_payload-requires-clause-odd c).After-read_word-old in
+    (table_loaded (shape_of c.args.bank.now) c.args.o c.args.table (view c.args.pass.now) (view c.read_word-old.new.pass) c.requires.pass.1 c.requires.writes (load_old d)).odd
 
 pub put_payload-requires-clause-root : goal.put_payload-requires-clause-root
 put_payload-requires-clause-root c =
-    let l = load_old (goal.at.put_payload-requires-clause-root c).After-read_word-old in
-    let u = view c.args.pass.now in
-    let k = shape_of c.args.bank.now in
-    let v = view c.read_word-old.new.pass in
-    let writes = table_loaded k c.args.o c.args.table u v c.requires.pass.1 c.requires.writes l in
-    writes.root
-
-pub put_payload-requires-clause-value : goal.put_payload-requires-clause-value
-put_payload-requires-clause-value c =
-    let l = load_old (goal.at.put_payload-requires-clause-value c).After-read_word-old in
-    let u = view c.args.pass.now in
-    let k = shape_of c.args.bank.now in
-    let v = view c.read_word-old.new.pass in
-    let writes = table_loaded k c.args.o c.args.table u v c.requires.pass.1 c.requires.writes l in
-    open_as u v c.args.o (table_id c.args.table) c.args.word l.work.pass.shape (still_unboxed k c.args.o c.args.table u v c.requires.pass.1 c.requires.writes l) c.requires.open
+    let d = (goal.at.put_payload-requires-clause-root c).After-read_word-old in
+    (table_loaded (shape_of c.args.bank.now) c.args.o c.args.table (view c.args.pass.now) (view c.read_word-old.new.pass) c.requires.pass.1 c.requires.writes (load_old d)).root
 
 pub put_payload-requires-clause-few : goal.put_payload-requires-clause-few
 put_payload-requires-clause-few c =
-    let l = load_old (goal.at.put_payload-requires-clause-few c).After-read_word-old in
-    let u = view c.args.pass.now in
-    let k = shape_of c.args.bank.now in
-    let v = view c.read_word-old.new.pass in
-    let writes = table_loaded k c.args.o c.args.table u v c.requires.pass.1 c.requires.writes l in
-    few_done k v (l.work.pass.shape ∙ c.requires.pass.1) writes.boxes
+    let d = (goal.at.put_payload-requires-clause-few c).After-read_word-old in
+    (table_loaded (shape_of c.args.bank.now) c.args.o c.args.table (view c.args.pass.now) (view c.read_word-old.new.pass) c.requires.pass.1 c.requires.writes (load_old d)).few
+
+pub put_payload-requires-clause-value : goal.put_payload-requires-clause-value
+put_payload-requires-clause-value c =
+    let d = (goal.at.put_payload-requires-clause-value c).After-read_word-old in
+    let l = load_old d in
+    open_as (view c.args.pass.now) (view c.read_word-old.new.pass) c.args.o (table_id c.args.table) c.args.word l.work.pass.shape (still_unboxed (shape_of c.args.bank.now) c.args.o c.args.table (view c.args.pass.now) (view c.read_word-old.new.pass) c.requires.pass.1 c.requires.writes l) c.requires.open
 
 pub put_payload-requires-clause-plain : goal.put_payload-requires-clause-plain
-put_payload-requires-clause-plain c e = c.requires.plain (sym c.if-old-kind.true ∙ (old_is (goal.at.put_payload-requires-clause-plain c).After-read_word-old ∙ e))
+put_payload-requires-clause-plain c e = c.if-kind-ne-BOX_KIND.true (sym c.if-old-kind.true ∙ (old_is (goal.at.put_payload-requires-clause-plain c).After-read_word-old ∙ e))
 
-pub returns-then-old-kind-clause-writes : goal.returns-then-old-kind-clause-writes
-returns-then-old-kind-clause-writes c =
-    same_writes (shape_of c.args.bank.now) c.args.o c.args.table c.args.word c.args.kind c.args.payload (view c.args.pass.now) (view c.read_word-old.new.pass) (view c.put_payload.new.pass) c.requires.pass.1 c.requires.writes c.requires.open (load_old (goal.at.returns-then-old-kind-clause-writes c).After-read_word-old) c.requires.plain c.put_payload.ensures.only (sym c.if-old-kind.true ∙ old_is (goal.at.returns-then-old-kind-clause-writes c).After-read_word-old) c.put_payload.ensures.held c.put_payload.ensures.same
+pub returns-then-kind-ne-BOX_KIND-clause-writes : goal.returns-then-kind-ne-BOX_KIND-clause-writes
+returns-then-kind-ne-BOX_KIND-clause-writes c =
+    let d = (goal.at.returns-then-kind-ne-BOX_KIND-clause-writes c).After-read_word-old in
+    same_writes (shape_of c.args.bank.now) c.args.o c.args.table c.args.word c.args.kind c.args.payload (view c.args.pass.now) (view c.read_word-old.new.pass) (view c.put_payload.new.pass) c.requires.pass.1 c.requires.writes c.requires.open (load_old d) c.requires.own (reads_loaded (view c.args.pass.now) (view c.read_word-old.new.pass) c.args.kind c.args.payload c.args.pass.now.possible c.requires.own (load_old d)) c.put_payload.ensures.only c.if-kind-ne-BOX_KIND.true (sym c.if-old-kind.true ∙ old_is d) c.put_payload.ensures.held c.put_payload.ensures.same
 
-pub returns-then-old-kind-clause-only : goal.returns-then-old-kind-clause-only
-returns-then-old-kind-clause-only c =
-    over_only (shape_of c.args.bank.now) c.args.o c.args.table c.args.word c.args.kind c.args.payload (view c.args.pass.now) (view c.read_word-old.new.pass) (view c.put_payload.new.pass) c.requires.pass.1 c.requires.writes c.requires.open (load_old (goal.at.returns-then-old-kind-clause-only c).After-read_word-old) c.requires.plain c.put_payload.ensures.only
+pub returns-then-kind-ne-BOX_KIND-clause-only : goal.returns-then-kind-ne-BOX_KIND-clause-only
+returns-then-kind-ne-BOX_KIND-clause-only c =
+    let d = (goal.at.returns-then-kind-ne-BOX_KIND-clause-only c).After-read_word-old in
+    over_only (shape_of c.args.bank.now) c.args.o c.args.table c.args.word c.args.kind c.args.payload (view c.args.pass.now) (view c.read_word-old.new.pass) (view c.put_payload.new.pass) c.requires.pass.1 c.requires.writes c.requires.open (load_old d) c.requires.own (reads_loaded (view c.args.pass.now) (view c.read_word-old.new.pass) c.args.kind c.args.payload c.args.pass.now.possible c.requires.own (load_old d)) c.put_payload.ensures.only
 
-pub returns-then-old-kind-clause-raw : goal.returns-then-old-kind-clause-raw
-returns-then-old-kind-clause-raw c =
-    same_raw (shape_of c.args.bank.now) c.args.o c.args.table c.args.word c.args.kind c.args.payload (view c.args.pass.now) (view c.read_word-old.new.pass) (view c.put_payload.new.pass) c.requires.pass.1 c.requires.writes c.requires.open (load_old (goal.at.returns-then-old-kind-clause-raw c).After-read_word-old) c.requires.plain c.put_payload.ensures.only (sym c.if-old-kind.true ∙ old_is (goal.at.returns-then-old-kind-clause-raw c).After-read_word-old) c.put_payload.ensures.held
+pub returns-then-kind-ne-BOX_KIND-clause-raw : goal.returns-then-kind-ne-BOX_KIND-clause-raw
+returns-then-kind-ne-BOX_KIND-clause-raw c =
+    let d = (goal.at.returns-then-kind-ne-BOX_KIND-clause-raw c).After-read_word-old in
+    same_raw (shape_of c.args.bank.now) c.args.o c.args.table c.args.word c.args.kind c.args.payload (view c.args.pass.now) (view c.read_word-old.new.pass) (view c.put_payload.new.pass) c.requires.pass.1 c.requires.writes c.requires.open (load_old d) c.requires.own (reads_loaded (view c.args.pass.now) (view c.read_word-old.new.pass) c.args.kind c.args.payload c.args.pass.now.possible c.requires.own (load_old d)) c.put_payload.ensures.only c.if-kind-ne-BOX_KIND.true (sym c.if-old-kind.true ∙ old_is d) c.put_payload.ensures.held
 
-pub returns-then-old-kind-clause-words : goal.returns-then-old-kind-clause-words
-returns-then-old-kind-clause-words c =
-    same_words (shape_of c.args.bank.now) c.args.o c.args.table c.args.word c.args.kind c.args.payload (view c.args.pass.now) (view c.read_word-old.new.pass) (view c.put_payload.new.pass) c.requires.pass.1 c.requires.writes c.requires.open (load_old (goal.at.returns-then-old-kind-clause-words c).After-read_word-old) c.requires.plain c.put_payload.ensures.only (sym c.if-old-kind.true ∙ old_is (goal.at.returns-then-old-kind-clause-words c).After-read_word-old) c.put_payload.ensures.held c.put_payload.ensures.unboxed
+pub returns-then-kind-ne-BOX_KIND-clause-words : goal.returns-then-kind-ne-BOX_KIND-clause-words
+returns-then-kind-ne-BOX_KIND-clause-words c =
+    let d = (goal.at.returns-then-kind-ne-BOX_KIND-clause-words c).After-read_word-old in
+    same_words (shape_of c.args.bank.now) c.args.o c.args.table c.args.word c.args.kind c.args.payload (view c.args.pass.now) (view c.read_word-old.new.pass) (view c.put_payload.new.pass) c.requires.pass.1 c.requires.writes c.requires.open (load_old d) c.requires.own (reads_loaded (view c.args.pass.now) (view c.read_word-old.new.pass) c.args.kind c.args.payload c.args.pass.now.possible c.requires.own (load_old d)) c.put_payload.ensures.only c.if-kind-ne-BOX_KIND.true (sym c.if-old-kind.true ∙ old_is d) c.put_payload.ensures.held c.put_payload.ensures.unboxed
+
+pub returns-then-kind-ne-BOX_KIND-clause-references : goal.returns-then-kind-ne-BOX_KIND-clause-references
+returns-then-kind-ne-BOX_KIND-clause-references c =
+    let d = (goal.at.returns-then-kind-ne-BOX_KIND-clause-references c).After-read_word-old in
+    same_refs (shape_of c.args.bank.now) c.args.o c.args.table c.args.word c.args.kind c.args.payload (view c.args.pass.now) (view c.read_word-old.new.pass) (view c.put_payload.new.pass) c.requires.pass.1 c.requires.writes c.requires.open (load_old d) c.requires.own (reads_loaded (view c.args.pass.now) (view c.read_word-old.new.pass) c.args.kind c.args.payload c.args.pass.now.possible c.requires.own (load_old d)) c.put_payload.ensures.only c.if-kind-ne-BOX_KIND.true (sym c.if-old-kind.true ∙ old_is d) c.put_payload.ensures.held c.put_payload.ensures.same
 
 -- ---- both words
 
 pub put_value-requires-clause-container : goal.put_value-requires-clause-container
 put_value-requires-clause-container c =
-    let l = load_named (goal.at.put_value-requires-clause-container c).After-read_word-named in
-    let u = view c.args.pass.now in
-    let k = shape_of c.args.bank.now in
-    let v = view c.read_word-named.new.pass in
-    let writes = table_loaded k c.args.o c.args.table u v c.requires.pass.1 c.requires.writes l in
-    writes.container
+    let d = (goal.at.put_value-requires-clause-container c).After-read_word-named in
+    (table_loaded (shape_of c.args.bank.now) c.args.o c.args.table (view c.args.pass.now) (view c.read_word-named.new.pass) c.requires.pass.1 c.requires.writes (load_named d)).container
 
 pub put_value-requires-clause-table : goal.put_value-requires-clause-table
 put_value-requires-clause-table c =
-    let l = load_named (goal.at.put_value-requires-clause-table c).After-read_word-named in
-    let u = view c.args.pass.now in
-    let k = shape_of c.args.bank.now in
-    let v = view c.read_word-named.new.pass in
-    let writes = table_loaded k c.args.o c.args.table u v c.requires.pass.1 c.requires.writes l in
-    writes.table_in
+    let d = (goal.at.put_value-requires-clause-table c).After-read_word-named in
+    (table_loaded (shape_of c.args.bank.now) c.args.o c.args.table (view c.args.pass.now) (view c.read_word-named.new.pass) c.requires.pass.1 c.requires.writes (load_named d)).table_in
 
 pub put_value-requires-clause-odd : goal.put_value-requires-clause-odd
 put_value-requires-clause-odd c =
-    let l = load_named (goal.at.put_value-requires-clause-odd c).After-read_word-named in
-    let u = view c.args.pass.now in
-    let k = shape_of c.args.bank.now in
-    let v = view c.read_word-named.new.pass in
-    let writes = table_loaded k c.args.o c.args.table u v c.requires.pass.1 c.requires.writes l in
-    writes.odd
+    let d = (goal.at.put_value-requires-clause-odd c).After-read_word-named in
+    (table_loaded (shape_of c.args.bank.now) c.args.o c.args.table (view c.args.pass.now) (view c.read_word-named.new.pass) c.requires.pass.1 c.requires.writes (load_named d)).odd
 
 pub put_value-requires-clause-root : goal.put_value-requires-clause-root
 put_value-requires-clause-root c =
-    let l = load_named (goal.at.put_value-requires-clause-root c).After-read_word-named in
-    let u = view c.args.pass.now in
-    let k = shape_of c.args.bank.now in
-    let v = view c.read_word-named.new.pass in
-    let writes = table_loaded k c.args.o c.args.table u v c.requires.pass.1 c.requires.writes l in
-    writes.root
-
-pub put_value-requires-clause-value : goal.put_value-requires-clause-value
-put_value-requires-clause-value c =
-    let l = load_named (goal.at.put_value-requires-clause-value c).After-read_word-named in
-    let u = view c.args.pass.now in
-    let k = shape_of c.args.bank.now in
-    let v = view c.read_word-named.new.pass in
-    let writes = table_loaded k c.args.o c.args.table u v c.requires.pass.1 c.requires.writes l in
-    open_as u v c.args.o (table_id c.args.table) c.args.word l.work.pass.shape (still_unboxed k c.args.o c.args.table u v c.requires.pass.1 c.requires.writes l) c.requires.open
+    let d = (goal.at.put_value-requires-clause-root c).After-read_word-named in
+    (table_loaded (shape_of c.args.bank.now) c.args.o c.args.table (view c.args.pass.now) (view c.read_word-named.new.pass) c.requires.pass.1 c.requires.writes (load_named d)).root
 
 pub put_value-requires-clause-few : goal.put_value-requires-clause-few
 put_value-requires-clause-few c =
-    let l = load_named (goal.at.put_value-requires-clause-few c).After-read_word-named in
-    let u = view c.args.pass.now in
-    let k = shape_of c.args.bank.now in
-    let v = view c.read_word-named.new.pass in
-    let writes = table_loaded k c.args.o c.args.table u v c.requires.pass.1 c.requires.writes l in
-    few_done k v (l.work.pass.shape ∙ c.requires.pass.1) writes.boxes
+    let d = (goal.at.put_value-requires-clause-few c).After-read_word-named in
+    (table_loaded (shape_of c.args.bank.now) c.args.o c.args.table (view c.args.pass.now) (view c.read_word-named.new.pass) c.requires.pass.1 c.requires.writes (load_named d)).few
+
+pub put_value-requires-clause-value : goal.put_value-requires-clause-value
+put_value-requires-clause-value c =
+    let d = (goal.at.put_value-requires-clause-value c).After-read_word-named in
+    let l = load_named d in
+    open_as (view c.args.pass.now) (view c.read_word-named.new.pass) c.args.o (table_id c.args.table) c.args.word l.work.pass.shape (still_unboxed (shape_of c.args.bank.now) c.args.o c.args.table (view c.args.pass.now) (view c.read_word-named.new.pass) c.requires.pass.1 c.requires.writes l) c.requires.open
 
 pub put_value-requires-clause-reference : goal.put_value-requires-clause-reference
-put_value-requires-clause-reference c four = absurd (c.requires.plain four)
+put_value-requires-clause-reference c =
+    let d = (goal.at.put_value-requires-clause-reference c).After-read_word-named in
+    own_loaded (view c.args.pass.now) (view c.read_word-named.new.pass) c.args.kind c.args.payload c.args.pass.now.possible c.requires.own (load_named d)
 
 -- ---- over a value in place
 
 pub returns-then-old-ne-BOX_KIND-clause-writes : goal.returns-then-old-ne-BOX_KIND-clause-writes
 returns-then-old-ne-BOX_KIND-clause-writes c =
-    both_writes (shape_of c.args.bank.now) c.args.o c.args.table c.args.word c.args.kind c.args.payload (view c.args.pass.now) (view c.read_word-named.new.pass) (view c.put_value.new.pass) c.requires.pass.1 c.requires.writes c.requires.open (load_named (goal.at.returns-then-old-ne-BOX_KIND-clause-writes c).After-read_word-named) c.requires.plain c.put_value.ensures.only c.put_value.ensures.held c.put_value.ensures.unboxed c.put_value.ensures.references (λ e. c.if-old-ne-BOX_KIND.true (old_stands (goal.at.returns-then-old-ne-BOX_KIND-clause-writes c).After-read_word-named ∙ e))
+    let d = (goal.at.returns-then-old-ne-BOX_KIND-clause-writes c).After-read_word-named in
+    both_writes (shape_of c.args.bank.now) c.args.o c.args.table c.args.word c.args.kind c.args.payload (view c.args.pass.now) (view c.read_word-named.new.pass) (view c.put_value.new.pass) c.requires.pass.1 c.requires.writes c.requires.open (load_named d) c.requires.own (reads_loaded (view c.args.pass.now) (view c.read_word-named.new.pass) c.args.kind c.args.payload c.args.pass.now.possible c.requires.own (load_named d)) c.put_value.ensures.only c.put_value.ensures.held c.put_value.ensures.unboxed c.put_value.ensures.references (λ e. c.if-old-ne-BOX_KIND.true (old_stands d ∙ e))
 
 pub returns-then-old-ne-BOX_KIND-clause-only : goal.returns-then-old-ne-BOX_KIND-clause-only
 returns-then-old-ne-BOX_KIND-clause-only c =
-    over_only (shape_of c.args.bank.now) c.args.o c.args.table c.args.word c.args.kind c.args.payload (view c.args.pass.now) (view c.read_word-named.new.pass) (view c.put_value.new.pass) c.requires.pass.1 c.requires.writes c.requires.open (load_named (goal.at.returns-then-old-ne-BOX_KIND-clause-only c).After-read_word-named) c.requires.plain c.put_value.ensures.only
+    let d = (goal.at.returns-then-old-ne-BOX_KIND-clause-only c).After-read_word-named in
+    over_only (shape_of c.args.bank.now) c.args.o c.args.table c.args.word c.args.kind c.args.payload (view c.args.pass.now) (view c.read_word-named.new.pass) (view c.put_value.new.pass) c.requires.pass.1 c.requires.writes c.requires.open (load_named d) c.requires.own (reads_loaded (view c.args.pass.now) (view c.read_word-named.new.pass) c.args.kind c.args.payload c.args.pass.now.possible c.requires.own (load_named d)) c.put_value.ensures.only
 
 pub returns-then-old-ne-BOX_KIND-clause-raw : goal.returns-then-old-ne-BOX_KIND-clause-raw
 returns-then-old-ne-BOX_KIND-clause-raw c =
-    both_raw (shape_of c.args.bank.now) c.args.o c.args.table c.args.word c.args.kind c.args.payload (view c.args.pass.now) (view c.read_word-named.new.pass) (view c.put_value.new.pass) c.requires.pass.1 c.requires.writes c.requires.open (load_named (goal.at.returns-then-old-ne-BOX_KIND-clause-raw c).After-read_word-named) c.requires.plain c.put_value.ensures.only c.put_value.ensures.held c.put_value.ensures.unboxed c.put_value.ensures.references
+    let d = (goal.at.returns-then-old-ne-BOX_KIND-clause-raw c).After-read_word-named in
+    both_raw (shape_of c.args.bank.now) c.args.o c.args.table c.args.word c.args.kind c.args.payload (view c.args.pass.now) (view c.read_word-named.new.pass) (view c.put_value.new.pass) c.requires.pass.1 c.requires.writes c.requires.open (load_named d) c.requires.own (reads_loaded (view c.args.pass.now) (view c.read_word-named.new.pass) c.args.kind c.args.payload c.args.pass.now.possible c.requires.own (load_named d)) c.put_value.ensures.only c.put_value.ensures.held c.put_value.ensures.unboxed c.put_value.ensures.references
 
 pub returns-then-old-ne-BOX_KIND-clause-words : goal.returns-then-old-ne-BOX_KIND-clause-words
 returns-then-old-ne-BOX_KIND-clause-words c =
-    both_words (shape_of c.args.bank.now) c.args.o c.args.table c.args.word c.args.kind c.args.payload (view c.args.pass.now) (view c.read_word-named.new.pass) (view c.put_value.new.pass) c.requires.pass.1 c.requires.writes c.requires.open (load_named (goal.at.returns-then-old-ne-BOX_KIND-clause-words c).After-read_word-named) c.requires.plain c.put_value.ensures.only c.put_value.ensures.held c.put_value.ensures.unboxed c.put_value.ensures.references
+    let d = (goal.at.returns-then-old-ne-BOX_KIND-clause-words c).After-read_word-named in
+    both_words (shape_of c.args.bank.now) c.args.o c.args.table c.args.word c.args.kind c.args.payload (view c.args.pass.now) (view c.read_word-named.new.pass) (view c.put_value.new.pass) c.requires.pass.1 c.requires.writes c.requires.open (load_named d) c.requires.own (reads_loaded (view c.args.pass.now) (view c.read_word-named.new.pass) c.args.kind c.args.payload c.args.pass.now.possible c.requires.own (load_named d)) c.put_value.ensures.only c.put_value.ensures.held c.put_value.ensures.unboxed c.put_value.ensures.references
+
+pub returns-then-old-ne-BOX_KIND-clause-references : goal.returns-then-old-ne-BOX_KIND-clause-references
+returns-then-old-ne-BOX_KIND-clause-references c =
+    let d = (goal.at.returns-then-old-ne-BOX_KIND-clause-references c).After-read_word-named in
+    both_refs (shape_of c.args.bank.now) c.args.o c.args.table c.args.word c.args.kind c.args.payload (view c.args.pass.now) (view c.read_word-named.new.pass) (view c.put_value.new.pass) c.requires.pass.1 c.requires.writes c.requires.open (load_named d) c.requires.own (reads_loaded (view c.args.pass.now) (view c.read_word-named.new.pass) c.args.kind c.args.payload c.args.pass.now.possible c.requires.own (load_named d)) c.put_value.ensures.only c.put_value.ensures.held c.put_value.ensures.unboxed c.put_value.ensures.references (λ e. c.if-old-ne-BOX_KIND.true (old_stands d ∙ e))
 
 -- ---- over one in a box
 
 pub release-requires-clause-name : goal.release-requires-clause-name
 release-requires-clause-name c =
-    box_is (shape_of c.args.bank.now) c.args.o c.args.table c.args.word c.args.kind c.args.payload (view c.args.pass.now) (view c.read_word-named.new.pass) (view c.put_value.new.pass) c.requires.pass.1 c.requires.writes c.requires.open (load_named (goal.at.release-requires-clause-name c).After-read_word-named) c.requires.plain c.put_value.ensures.only c.put_value.ensures.held c.put_value.ensures.unboxed c.put_value.ensures.references c.read_word-named.result (sym (old_stands (goal.at.release-requires-clause-name c).After-read_word-named) ∙ c.if-old-ne-BOX_KIND.false) (named_is (goal.at.release-requires-clause-name c).After-read_word-named) c.read_word-named.new.pass.possible
-
-pub release-requires-clause-shared : goal.release-requires-clause-shared
-release-requires-clause-shared c =
-    box_shared (shape_of c.args.bank.now) c.args.o c.args.table c.args.word c.args.kind c.args.payload (view c.args.pass.now) (view c.read_word-named.new.pass) (view c.put_value.new.pass) c.requires.pass.1 c.requires.writes c.requires.open (load_named (goal.at.release-requires-clause-shared c).After-read_word-named) c.requires.plain c.put_value.ensures.only c.put_value.ensures.held c.put_value.ensures.unboxed c.put_value.ensures.references c.read_word-named.result (sym (old_stands (goal.at.release-requires-clause-shared c).After-read_word-named) ∙ c.if-old-ne-BOX_KIND.false) (named_is (goal.at.release-requires-clause-shared c).After-read_word-named)
+    let d = (goal.at.release-requires-clause-name c).After-read_word-named in
+    box_is (shape_of c.args.bank.now) c.args.o c.args.table c.args.word c.args.kind c.args.payload (view c.args.pass.now) (view c.read_word-named.new.pass) (view c.put_value.new.pass) c.requires.pass.1 c.requires.writes c.requires.open (load_named d) c.requires.own (reads_loaded (view c.args.pass.now) (view c.read_word-named.new.pass) c.args.kind c.args.payload c.args.pass.now.possible c.requires.own (load_named d)) c.put_value.ensures.only c.put_value.ensures.held c.put_value.ensures.unboxed c.put_value.ensures.references c.read_word-named.result (sym (old_stands d) ∙ c.if-old-ne-BOX_KIND.false) (named_is d) c.read_word-named.new.pass.possible
 
 pub release-requires-clause-held : goal.release-requires-clause-held
 release-requires-clause-held c =
-    box_held (shape_of c.args.bank.now) c.args.o c.args.table c.args.word c.args.kind c.args.payload (view c.args.pass.now) (view c.read_word-named.new.pass) (view c.put_value.new.pass) c.requires.pass.1 c.requires.writes c.requires.open (load_named (goal.at.release-requires-clause-held c).After-read_word-named) c.requires.plain c.put_value.ensures.only c.put_value.ensures.held c.put_value.ensures.unboxed c.put_value.ensures.references c.read_word-named.result (sym (old_stands (goal.at.release-requires-clause-held c).After-read_word-named) ∙ c.if-old-ne-BOX_KIND.false) (named_is (goal.at.release-requires-clause-held c).After-read_word-named)
+    let d = (goal.at.release-requires-clause-held c).After-read_word-named in
+    box_held (shape_of c.args.bank.now) c.args.o c.args.table c.args.word c.args.kind c.args.payload (view c.args.pass.now) (view c.read_word-named.new.pass) (view c.put_value.new.pass) c.requires.pass.1 c.requires.writes c.requires.open (load_named d) c.requires.own (reads_loaded (view c.args.pass.now) (view c.read_word-named.new.pass) c.args.kind c.args.payload c.args.pass.now.possible c.requires.own (load_named d)) c.put_value.ensures.only c.put_value.ensures.held c.put_value.ensures.unboxed c.put_value.ensures.references c.read_word-named.result (sym (old_stands d) ∙ c.if-old-ne-BOX_KIND.false) (named_is d)
 
-pub release-requires-clause-none : goal.release-requires-clause-none
-release-requires-clause-none c =
-    box_none (shape_of c.args.bank.now) c.args.o c.args.table c.args.word c.args.kind c.args.payload (view c.args.pass.now) (view c.read_word-named.new.pass) (view c.put_value.new.pass) c.requires.pass.1 c.requires.writes c.requires.open (load_named (goal.at.release-requires-clause-none c).After-read_word-named) c.requires.plain c.put_value.ensures.only c.put_value.ensures.held c.put_value.ensures.unboxed c.put_value.ensures.references c.read_word-named.result (sym (old_stands (goal.at.release-requires-clause-none c).After-read_word-named) ∙ c.if-old-ne-BOX_KIND.false) (named_is (goal.at.release-requires-clause-none c).After-read_word-named)
+pub release-requires-clause-settled : goal.release-requires-clause-settled
+release-requires-clause-settled c =
+    let d = (goal.at.release-requires-clause-settled c).After-read_word-named in
+    box_settled (shape_of c.args.bank.now) c.args.o c.args.table c.args.word c.args.kind c.args.payload (view c.args.pass.now) (view c.read_word-named.new.pass) (view c.put_value.new.pass) c.requires.pass.1 c.requires.writes c.requires.open (load_named d) c.requires.own (reads_loaded (view c.args.pass.now) (view c.read_word-named.new.pass) c.args.kind c.args.payload c.args.pass.now.possible c.requires.own (load_named d)) c.put_value.ensures.only c.put_value.ensures.held c.put_value.ensures.unboxed c.put_value.ensures.references c.read_word-named.result (sym (old_stands d) ∙ c.if-old-ne-BOX_KIND.false) (named_is d)
 
 pub returns-clause-writes : goal.returns-clause-writes
 returns-clause-writes c =
-    drop_writes (shape_of c.args.bank.now) c.args.o c.args.table c.args.word c.args.kind c.args.payload (view c.args.pass.now) (view c.read_word-named.new.pass) (view c.put_value.new.pass) c.requires.pass.1 c.requires.writes c.requires.open (load_named (goal.at.returns-clause-writes c).After-read_word-named) c.requires.plain c.put_value.ensures.only c.put_value.ensures.held c.put_value.ensures.unboxed c.put_value.ensures.references c.read_word-named.result (sym (old_stands (goal.at.returns-clause-writes c).After-read_word-named) ∙ c.if-old-ne-BOX_KIND.false) (named_is (goal.at.returns-clause-writes c).After-read_word-named) (view c.release.new.pass) c.release.ensures.only c.release.ensures.made c.release.ensures.references
+    let d = (goal.at.returns-clause-writes c).After-read_word-named in
+    drop_writes (shape_of c.args.bank.now) c.args.o c.args.table c.args.word c.args.kind c.args.payload (view c.args.pass.now) (view c.read_word-named.new.pass) (view c.put_value.new.pass) c.requires.pass.1 c.requires.writes c.requires.open (load_named d) c.requires.own (reads_loaded (view c.args.pass.now) (view c.read_word-named.new.pass) c.args.kind c.args.payload c.args.pass.now.possible c.requires.own (load_named d)) c.put_value.ensures.only c.put_value.ensures.held c.put_value.ensures.unboxed c.put_value.ensures.references c.read_word-named.result (sym (old_stands d) ∙ c.if-old-ne-BOX_KIND.false) (named_is d) (view c.release.new.pass) c.release.ensures.only c.release.ensures.settled c.release.ensures.places c.release.ensures.references
 
 pub returns-clause-only : goal.returns-clause-only
 returns-clause-only c =
-    drop_only (shape_of c.args.bank.now) c.args.o c.args.table c.args.word c.args.kind c.args.payload (view c.args.pass.now) (view c.read_word-named.new.pass) (view c.put_value.new.pass) c.requires.pass.1 c.requires.writes c.requires.open (load_named (goal.at.returns-clause-only c).After-read_word-named) c.requires.plain c.put_value.ensures.only c.put_value.ensures.held c.put_value.ensures.unboxed c.put_value.ensures.references c.read_word-named.result (sym (old_stands (goal.at.returns-clause-only c).After-read_word-named) ∙ c.if-old-ne-BOX_KIND.false) (named_is (goal.at.returns-clause-only c).After-read_word-named) (view c.release.new.pass) c.release.ensures.only c.release.ensures.made c.release.ensures.references
+    let d = (goal.at.returns-clause-only c).After-read_word-named in
+    drop_only (shape_of c.args.bank.now) c.args.o c.args.table c.args.word c.args.kind c.args.payload (view c.args.pass.now) (view c.read_word-named.new.pass) (view c.put_value.new.pass) c.requires.pass.1 c.requires.writes c.requires.open (load_named d) c.requires.own (reads_loaded (view c.args.pass.now) (view c.read_word-named.new.pass) c.args.kind c.args.payload c.args.pass.now.possible c.requires.own (load_named d)) c.put_value.ensures.only c.put_value.ensures.held c.put_value.ensures.unboxed c.put_value.ensures.references c.read_word-named.result (sym (old_stands d) ∙ c.if-old-ne-BOX_KIND.false) (named_is d) (view c.release.new.pass) c.release.ensures.only c.release.ensures.settled c.release.ensures.places c.release.ensures.references
 
 pub returns-clause-raw : goal.returns-clause-raw
 returns-clause-raw c =
-    drop_raw (shape_of c.args.bank.now) c.args.o c.args.table c.args.word c.args.kind c.args.payload (view c.args.pass.now) (view c.read_word-named.new.pass) (view c.put_value.new.pass) c.requires.pass.1 c.requires.writes c.requires.open (load_named (goal.at.returns-clause-raw c).After-read_word-named) c.requires.plain c.put_value.ensures.only c.put_value.ensures.held c.put_value.ensures.unboxed c.put_value.ensures.references c.read_word-named.result (sym (old_stands (goal.at.returns-clause-raw c).After-read_word-named) ∙ c.if-old-ne-BOX_KIND.false) (named_is (goal.at.returns-clause-raw c).After-read_word-named) (view c.release.new.pass) c.release.ensures.only c.release.ensures.made c.release.ensures.references
+    let d = (goal.at.returns-clause-raw c).After-read_word-named in
+    drop_raw (shape_of c.args.bank.now) c.args.o c.args.table c.args.word c.args.kind c.args.payload (view c.args.pass.now) (view c.read_word-named.new.pass) (view c.put_value.new.pass) c.requires.pass.1 c.requires.writes c.requires.open (load_named d) c.requires.own (reads_loaded (view c.args.pass.now) (view c.read_word-named.new.pass) c.args.kind c.args.payload c.args.pass.now.possible c.requires.own (load_named d)) c.put_value.ensures.only c.put_value.ensures.held c.put_value.ensures.unboxed c.put_value.ensures.references c.read_word-named.result (sym (old_stands d) ∙ c.if-old-ne-BOX_KIND.false) (named_is d) (view c.release.new.pass) c.release.ensures.only c.release.ensures.settled c.release.ensures.places c.release.ensures.references
 
 pub returns-clause-words : goal.returns-clause-words
 returns-clause-words c =
-    drop_words (shape_of c.args.bank.now) c.args.o c.args.table c.args.word c.args.kind c.args.payload (view c.args.pass.now) (view c.read_word-named.new.pass) (view c.put_value.new.pass) c.requires.pass.1 c.requires.writes c.requires.open (load_named (goal.at.returns-clause-words c).After-read_word-named) c.requires.plain c.put_value.ensures.only c.put_value.ensures.held c.put_value.ensures.unboxed c.put_value.ensures.references c.read_word-named.result (sym (old_stands (goal.at.returns-clause-words c).After-read_word-named) ∙ c.if-old-ne-BOX_KIND.false) (named_is (goal.at.returns-clause-words c).After-read_word-named) (view c.release.new.pass) c.release.ensures.only c.release.ensures.made c.release.ensures.references
+    let d = (goal.at.returns-clause-words c).After-read_word-named in
+    drop_words (shape_of c.args.bank.now) c.args.o c.args.table c.args.word c.args.kind c.args.payload (view c.args.pass.now) (view c.read_word-named.new.pass) (view c.put_value.new.pass) c.requires.pass.1 c.requires.writes c.requires.open (load_named d) c.requires.own (reads_loaded (view c.args.pass.now) (view c.read_word-named.new.pass) c.args.kind c.args.payload c.args.pass.now.possible c.requires.own (load_named d)) c.put_value.ensures.only c.put_value.ensures.held c.put_value.ensures.unboxed c.put_value.ensures.references c.read_word-named.result (sym (old_stands d) ∙ c.if-old-ne-BOX_KIND.false) (named_is d) (view c.release.new.pass) c.release.ensures.only c.release.ensures.settled c.release.ensures.places c.release.ensures.references
+
+pub returns-clause-references : goal.returns-clause-references
+returns-clause-references c =
+    let d = (goal.at.returns-clause-references c).After-read_word-named in
+    drop_refs (shape_of c.args.bank.now) c.args.o c.args.table c.args.word c.args.kind c.args.payload (view c.args.pass.now) (view c.read_word-named.new.pass) (view c.put_value.new.pass) c.requires.pass.1 c.requires.writes c.requires.open (load_named d) c.requires.own (reads_loaded (view c.args.pass.now) (view c.read_word-named.new.pass) c.args.kind c.args.payload c.args.pass.now.possible c.requires.own (load_named d)) c.put_value.ensures.only c.put_value.ensures.held c.put_value.ensures.unboxed c.put_value.ensures.references c.read_word-named.result (sym (old_stands d) ∙ c.if-old-ne-BOX_KIND.false) (named_is d) (view c.release.new.pass) c.release.ensures.only c.release.ensures.settled c.release.ensures.places c.release.ensures.references

@@ -1,4 +1,4 @@
-use Rattle.std.proofs.Common.{◌≡◌, ℕ, ◌+◌, sym, ap, ◌∙◌, subst, arith}
+use Rattle.std.proofs.Common.{◌≡◌, ◌≢◌, ℕ, ◌+◌, sym, ap, ◌∙◌, subst, arith}
 use Rattle.std.specs.Prelude.{slice_index}
 use Rattle.ft_trace.specs.Holds.{held_words, held_unboxed}
 use Rattle.ft_trace.specs.Pictures.{ContainerWords}
@@ -8,7 +8,7 @@ use Rattle.ft_bank.specs.TableNames.{table_id}
 use Rattle.ft_bank.specs.Whole.{OnlyLoaded}
 use Rattle.ft_bank.proofs.KnownAfterWrites.{loaded_put, loaded_then, put_written, written_then}
 use Rattle.ft_search.specs.Boxed.{IsKnownBox, WritesTable}
-use Rattle.ft_search.proofs.Overs.{value_inside, word_inside, value_known, table_loaded, open_as, still_unboxed}
+use Rattle.ft_search.proofs.Overs.{value_inside, word_inside, value_known, table_loaded, open_as, plain_refs, plain_words, still_unboxed}
 use Rattle.ft_search.proofs.Unboxing.{put_again}
 use Rattle.ft_search.proofs.ValueLoads.{kind_load, kind_found, both_load, kind_stays, payload_found, writes_still, open_still, value_reads}
 use Rattle.ft_search.proofs.boxed.put_unboxed.Goals as goal
@@ -84,8 +84,11 @@ put_over-requires-clause-open c =
     let l = load_all (goal.at.put_over-requires-clause-open c).After-read_value-read in
     open_as (view c.args.pass.now) (view c.read_value-read.new.pass) c.args.o (table_id c.args.table) c.args.word l.work.pass.shape (still_unboxed (shape_of c.args.bank.now) c.args.o c.args.table (view c.args.pass.now) (view c.read_value-read.new.pass) c.requires.pass.1 c.requires.writes l) c.requires.open
 
-pub put_over-requires-clause-plain : goal.put_over-requires-clause-plain
-put_over-requires-clause-plain c four = c.requires.plain (sym (reads_are (goal.at.put_over-requires-clause-plain c).After-read_value-read).0 ∙ four)
+plain_read : (c : After-read_value-read) → c.read_value-read.result.0 ≢ 4
+plain_read c four = c.requires.plain (sym (reads_are c).0 ∙ four)
+
+pub put_over-requires-clause-own : goal.put_over-requires-clause-own
+put_over-requires-clause-own c four = absurd (plain_read (goal.at.put_over-requires-clause-own c).After-read_value-read four)
 
 -- ---- in place already
 
@@ -106,7 +109,21 @@ pub returns-then-old-ne-BOX_KIND-clause-words : goal.returns-then-old-ne-BOX_KIN
 returns-then-old-ne-BOX_KIND-clause-words c =
     still_unboxed (shape_of c.args.bank.now) c.args.o c.args.table (view c.args.pass.now) (view c.read_word-old.new.pass) c.requires.pass.1 c.requires.writes (load_old (goal.at.returns-then-old-ne-BOX_KIND-clause-words c).After-read_word-old)
 
+pub returns-then-old-ne-BOX_KIND-clause-references : goal.returns-then-old-ne-BOX_KIND-clause-references
+returns-then-old-ne-BOX_KIND-clause-references c = (load_old (goal.at.returns-then-old-ne-BOX_KIND-clause-references c).After-read_word-old).boxes.references
+
 -- ---- put in place
+
+pub returns-clause-raw : goal.returns-clause-raw
+returns-clause-raw c e = plain_read (goal.at.returns-clause-raw c).After-read_value-read (sym c.put_over.ensures.raw.0 ∙ e)
+
+pub returns-clause-references : goal.returns-clause-references
+returns-clause-references c b =
+    let v = view c.read_value-read.new.pass in
+    let d = (goal.at.returns-clause-references c).After-read_value-read in
+    let l = load_all d in
+    plain_refs (shape_of c.args.bank.now) v (view c.put_over.new.pass) c.read_value-read.result.0 c.read_value-read.result.1 c.read_value-read.ensures.pass.1 c.put_over.ensures.pass.1 (plain_read d) c.put_over.ensures.references b
+    ∙ l.boxes.references b
 
 pub returns-clause-only : goal.returns-clause-only
 returns-clause-only c =
@@ -124,7 +141,7 @@ returns-clause-words c =
     let d = (goal.at.returns-clause-words c).After-read_value-read in
     let r = reads_are d in
     let same = still_unboxed (shape_of c.args.bank.now) o c.args.table u v c.requires.pass.1 c.requires.writes (load_all d) in
-    c.put_over.ensures.words
+    plain_words v (held_unboxed o v) (held_unboxed o (view c.put_over.new.pass)) i c.read_value-read.result.0 c.read_value-read.result.1 (plain_read d) c.put_over.ensures.words
     ∙ (put_again (held_unboxed o v) i c.read_value-read.result.0 c.read_value-read.result.1
     (r.0 ∙ sym (ap (λ (x : ContainerWords). slice_index x.table i) same))
     (r.1 ∙ sym (ap (λ (x : ContainerWords). slice_index x.table (i + 1)) same))

@@ -3,6 +3,7 @@ use Rattle.std.specs.Prelude.{slice_index}
 use Rattle.ft_model.specs.declared.script.Kind.{Kind}
 use Rattle.ft_trace.specs.declared.View.{View}
 use Rattle.ft_trace.specs.Acts.{has_committed}
+use Rattle.ft_trace.specs.Boxes.{references_held}
 use Rattle.ft_trace.specs.Addresses.{class_of, slots}
 use Rattle.ft_trace.specs.Pictures.{entry_field}
 use Rattle.ft_trace.specs.Holds.{held_unboxed, known_state}
@@ -16,7 +17,6 @@ use Rattle.ft_search.proofs.Changing.{Changing, kind_is}
 use Rattle.ft_search.proofs.Deletions.{deletes_known}
 use Rattle.ft_search.proofs.ReadyCommits.{entry_finishes, whole_root, whole_write, writes_begun}
 use Rattle.ft_search.proofs.Laws.{DictLaws, SetLaws}
-use Rattle.ft_search.proofs.Puts.{same_done}
 use Rattle.ft_search.proofs.deleting.delete_entry.Goals as goal
 use Rattle.ft_search.proofs.deleting.delete_entry.Goals.{After-start_write}
 
@@ -51,7 +51,7 @@ change c = deletes_known (dicts c) (sets c) (shape_of c.args.bank.now) c.args.o 
 pub put_deleted-requires-clause-writes : goal.put_deleted-requires-clause-writes
 put_deleted-requires-clause-writes c =
     let a = c.args in
-    writes_begun (shape_of a.bank.now) a.o a.table (view a.pass.now) (view c.start_write.new.pass) c.start_write.result c.start_write.ensures.1 c.requires.may c.requires.table
+    writes_begun (shape_of a.bank.now) a.o a.table (view a.pass.now) (view c.start_write.new.pass) c.start_write.result c.requires.pass.1 c.start_write.ensures.1 c.requires.may c.requires.table
 
 pub put_deleted-requires-clause-place : goal.put_deleted-requires-clause-place
 put_deleted-requires-clause-place c = c.requires.entry.low
@@ -107,9 +107,5 @@ returns-clause-root c =
     whole_root a.o (view a.pass.now) (view c.start_write.new.pass) (view c.put_deleted.new.pass) c.start_write.result c.start_write.ensures.1 c.put_deleted.ensures.only a.called.now a.said.now c.finish_entry.result (view c.finish_entry.new.pass) c.requires.leaves.changed c.finish_entry.ensures.ends (c.put_deleted.ensures.writes.root ∙ sym c.requires.table.root)
 
 pub returns-clause-references : goal.returns-clause-references
-returns-clause-references c =
-    let a = c.args in
-    let k = shape_of a.bank.now in
-    let w = view c.put_deleted.new.pass in
-    let before = same_done k (view a.pass.now) w c.requires.pass.1 c.put_deleted.ensures.pass.1 c.requires.may.boxes c.put_deleted.ensures.writes.boxes in
-    λ b. c.finish_entry.ensures.references b ∙ before b
+returns-clause-references c b =
+    c.finish_entry.ensures.references b ∙ (c.put_deleted.ensures.references b ∙ ap (λ (z : View). references_held z.shape b z.log) c.start_write.ensures.1)

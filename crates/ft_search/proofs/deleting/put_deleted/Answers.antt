@@ -95,3 +95,10 @@ returns-clause-words c =
     let e = c.raise_at.ensures in
     c.put_unboxed.ensures.words ∙ deleted_words (shape_of a.bank.now) a.o a.table a.place a.key (view a.pass.now) (view c.read_block-count.new.pass) (view c.put_block.new.pass) c.read_block-count.result c.requires.pass.1 c.requires.writes c.requires.early (first d) (c.read_block-count.ensures.held c.requires.writes.locked) (second d) c.put_block.ensures.boxes.references c.put_block.ensures.unboxed c.requires.may
     (view c.raise_at.new.pass) e.only e.writes e.words c.gone_kind_of.result c.gone_kind_of.ensures (view c.put_entry.new.pass) c.put_entry.ensures.words
+
+pub returns-clause-references : goal.returns-clause-references
+returns-clause-references c b =
+    let d = (goal.at.returns-clause-references c).After-put_block in
+    c.put_unboxed.ensures.references b
+    ∙ (c.put_entry.ensures.references b
+    ∙ (c.raise_at.ensures.references b ∙ (c.put_block.ensures.boxes.references b ∙ (first d).boxes.references b)))

@@ -9,7 +9,7 @@ use Rattle.ft_bank.specs.Passes.{shape_of, view}
 use Rattle.ft_bank.specs.TableNames.{table_id}
 use Rattle.ft_bank.specs.WriteSteps.{IsCareful, with_table}
 use Rattle.ft_bank.proofs.KnownAfterWrites.{loaded_put, put_then}
-use Rattle.ft_search.proofs.Puts.{entry_refs, entry_room, careful_loaded, few_done}
+use Rattle.ft_search.proofs.Puts.{entry_refs, entry_room, careful_loaded}
 use Rattle.ft_search.proofs.entries.raise_at.Goals as goal
 
 pub overflow_add-version : goal.overflow_add-version
@@ -27,7 +27,7 @@ put_entry-requires-clause-care c =
     (subst (λ (k : Shape). a.o < container_count k) (sym c.requires.pass.1) c.requires.writes.container) c.requires.writes.locked e.only
     (let w = view c.read_entry-version.new.pass in
     let shape : w.shape ≡ shape_of a.bank.now = e.only.work.pass.shape ∙ c.requires.pass.1 in
-    entry_refs w a.o (table_id a.table) a.place 0 (c.read_entry-version.result + 1) (subst (λ (k : Shape). IsKeyed (kind_in k.starts a.o)) (sym shape) e.writes.keyed) (omega arith) (λ z. absurd (omega (arith, z))) (λ z. absurd (omega (arith, z))) (few_done (shape_of a.bank.now) w shape e.writes.boxes))
+    entry_refs w a.o (table_id a.table) a.place 0 (c.read_entry-version.result + 1) (subst (λ (k : Shape). IsKeyed (kind_in k.starts a.o)) (sym shape) e.writes.keyed) (omega arith) (λ z. absurd (omega (arith, z))) (λ z. absurd (omega (arith, z))) e.writes.few)
     (subst (λ (n : ℕ). IsCareful (view a.pass.now) a.o (table_id a.table) (entry_offset (slots (class_of (table_id a.table))) a.place 0) (n + 1)) (sym e.found) c.requires.care)
 
 pub returns-clause-only : goal.returns-clause-only

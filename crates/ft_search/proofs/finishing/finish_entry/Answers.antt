@@ -1,13 +1,12 @@
 use Rattle.std.proofs.Common.{sym, ap, ◌∙◌, subst}
 use Rattle.ft_trace.specs.declared.Shape.{Shape}
 use Rattle.ft_trace.specs.declared.View.{View}
-use Rattle.ft_trace.specs.Boxes.{IsDoneWithBoxes}
+use Rattle.ft_trace.specs.Boxes.{references_held}
 use Rattle.ft_trace.specs.ContainerStates.{kind_in}
 use Rattle.ft_trace.specs.Holds.{held_unboxed, known_state}
 use Rattle.ft_trace.specs.Kinds.{IsKeyed}
 use Rattle.ft_trace.specs.Pictures.{Represents}
 use Rattle.ft_bank.specs.Passes.{shape_of, view}
-use Rattle.ft_search.proofs.Puts.{few_done, same_done}
 use Rattle.ft_search.proofs.ReadyCommits.{close_care, stands_then, shut_then, ends_then}
 use Rattle.ft_search.proofs.finishing.finish_entry.Goals as goal
 
@@ -17,7 +16,7 @@ raise_version-requires-clause-care c =
     let d = c.commit-number.ensures.did in
     let v = view a.pass.now in
     let keyed : IsKeyed (kind_in v.shape.starts a.o) = subst (λ (k : Shape). IsKeyed (kind_in k.starts a.o)) (sym c.requires.pass.1) c.requires.writes.keyed in
-    close_care a.o a.table a.place a.called.now a.said.now v c.requires.may keyed (few_done (shape_of a.bank.now) v c.requires.pass.1 c.requires.writes.boxes) c.commit-number.result d.0 (view c.commit-number.new.pass) d.1.1 c.commit-number.ensures.committed
+    close_care a.o a.table a.place a.called.now a.said.now v c.requires.may keyed c.requires.writes.few c.commit-number.result d.0 (view c.commit-number.new.pass) d.1.1 c.commit-number.ensures.committed
 
 pub stop_write-requires-clause-stands : goal.stop_write-requires-clause-stands
 stop_write-requires-clause-stands c =
@@ -44,9 +43,6 @@ returns-clause-ends c =
     c.stop_write.result (view c.stop_write.new.pass) c.commit-number.ensures.seen (e.writes.root ∙ sym c.requires.writes.root) c.stop_write.ensures.1
 
 pub returns-clause-references : goal.returns-clause-references
-returns-clause-references c =
-    let k = shape_of c.args.bank.now in
-    let stopped = c.stop_write.ensures.1 in
-    let e = c.raise_version.ensures in
-    same_done k (view c.args.pass.now) (view c.stop_write.new.pass) c.requires.pass.1 (ap (λ (z : View). z.shape) stopped ∙ e.pass.1) c.requires.writes.boxes
-    (subst (λ (z : View). IsDoneWithBoxes k z.log) (sym stopped) e.writes.boxes)
+returns-clause-references c b =
+    let held = λ (z : View). references_held z.shape b z.log in
+    ap held c.stop_write.ensures.1 ∙ (c.raise_version.ensures.references b ∙ ap held c.commit-number.ensures.did.1.1)

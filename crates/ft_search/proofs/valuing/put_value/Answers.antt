@@ -1,6 +1,7 @@
 use Rattle.std.proofs.Common.{◌≡◌, ◌≢◌, ℕ, ◌<◌, sym, ◌∙◌, subst}
 use Rattle.ft_trace.specs.Addresses.{class_of, slots}
 use Rattle.ft_trace.specs.ContainerStates.{kind_in}
+use Rattle.ft_trace.specs.Holds.{held_unboxed}
 use Rattle.ft_trace.specs.Pictures.{entry_offset}
 use Rattle.ft_trace.proofs.ValuePlaces.{plain_kind}
 use Rattle.ft_bank.specs.Passes.{shape_of, view}
@@ -8,7 +9,8 @@ use Rattle.ft_bank.specs.TableNames.{table_id}
 use Rattle.ft_bank.proofs.KnownAfterWrites.{put_written, written_then}
 use Rattle.ft_search.proofs.Boxing.{table_of, entries_of_table}
 use Rattle.ft_search.proofs.OtherValues.{value_opens, value_is_open, value_words}
-use Rattle.ft_search.proofs.Puts.{few_done, few_mask, few_places}
+use Rattle.ft_search.proofs.Overs.{plain_refs, plain_words}
+use Rattle.ft_search.proofs.Puts.{few_mask, few_places}
 use Rattle.ft_search.proofs.WordPlaces.{entry_is}
 use Rattle.ft_search.proofs.valuing.put_value.Goals as goal
 use Rattle.ft_search.proofs.valuing.put_value.Goals.{After-word_at-word}
@@ -19,7 +21,7 @@ at_four c = let a = c.args in c.word_at-word.ensures ∙ entry_is (shape_of a.ba
 pub raise_at-requires-clause-care : goal.raise_at-requires-clause-care
 raise_at-requires-clause-care c =
     let a = c.args in
-    value_opens (shape_of a.bank.now) a.o a.table a.place a.value (view a.pass.now) c.requires.pass.1 c.requires.early (few_done (shape_of a.bank.now) (view a.pass.now) c.requires.pass.1 c.requires.writes.boxes) c.requires.may
+    value_opens (shape_of a.bank.now) a.o a.table a.place a.value (view a.pass.now) c.requires.pass.1 c.requires.early c.requires.writes.few c.requires.may
 
 pub word_at-word-requires-clause-mask : goal.word_at-word-requires-clause-mask
 word_at-word-requires-clause-mask c = subst (λ (n : ℕ). n < 65536) (sym c.mask_of.ensures) (few_mask (shape_of c.args.bank.now) c.args.table c.requires.writes.table_in)
@@ -36,8 +38,12 @@ put_over-requires-clause-open c =
     let e = c.raise_at.ensures in
     value_is_open (shape_of a.bank.now) a.o a.table a.place a.value (view a.pass.now) (view c.raise_at.new.pass) c.requires.pass.1 e.only e.words c.requires.may c.word_at-word.result (at_four (goal.at.put_over-requires-clause-open c).After-word_at-word)
 
-pub put_over-requires-clause-plain : goal.put_over-requires-clause-plain
-put_over-requires-clause-plain c = subst (λ (n : ℕ). n ≢ 4) (sym c.stored_kind_of-kind_word.ensures) (plain_kind c.args.value)
+-- the value names no box
+plain_here : (c : After-word_at-word) → c.stored_kind_of-kind_word.result ≢ 4
+plain_here c = subst (λ (n : ℕ). n ≢ 4) (sym c.stored_kind_of-kind_word.ensures) (plain_kind c.args.value)
+
+pub put_over-requires-clause-own : goal.put_over-requires-clause-own
+put_over-requires-clause-own c four = absurd (plain_here (goal.at.put_over-requires-clause-own c).After-word_at-word four)
 
 pub returns-clause-writes : goal.returns-clause-writes
 returns-clause-writes c = entries_of_table (shape_of c.args.bank.now) c.args.o c.args.table (view c.put_over.new.pass) c.requires.writes.keyed c.put_over.ensures.writes
@@ -53,5 +59,13 @@ pub returns-clause-words : goal.returns-clause-words
 returns-clause-words c =
     let a = c.args in
     let e = c.raise_at.ensures in
+    let w1 = view c.raise_at.new.pass in
     value_words (shape_of a.bank.now) a.o a.table a.place a.value (view a.pass.now) (view c.raise_at.new.pass) c.requires.pass.1 e.only e.words c.requires.may
-    (view c.put_over.new.pass) c.word_at-word.result c.stored_kind_of-kind_word.result c.stored_payload_of-payload.result (at_four (goal.at.returns-clause-words c).After-word_at-word) c.stored_kind_of-kind_word.ensures c.stored_payload_of-payload.ensures c.put_over.ensures.words
+    (view c.put_over.new.pass) c.word_at-word.result c.stored_kind_of-kind_word.result c.stored_payload_of-payload.result (at_four (goal.at.returns-clause-words c).After-word_at-word) c.stored_kind_of-kind_word.ensures c.stored_payload_of-payload.ensures
+    (plain_words w1 (held_unboxed a.o w1) (held_unboxed a.o (view c.put_over.new.pass)) c.word_at-word.result c.stored_kind_of-kind_word.result c.stored_payload_of-payload.result (plain_here (goal.at.returns-clause-words c).After-word_at-word) c.put_over.ensures.words)
+
+pub returns-clause-references : goal.returns-clause-references
+returns-clause-references c b =
+    let w1 = view c.raise_at.new.pass in
+    plain_refs (shape_of c.args.bank.now) w1 (view c.put_over.new.pass) c.stored_kind_of-kind_word.result c.stored_payload_of-payload.result c.raise_at.ensures.pass.1 c.put_over.ensures.pass.1 (plain_here (goal.at.returns-clause-references c).After-word_at-word) c.put_over.ensures.references b
+    ∙ c.raise_at.ensures.references b

@@ -2,6 +2,7 @@ use Rattle.std.proofs.Common.{◌≡◌, None, false, sym, ap, ◌∙◌, subst,
 use Rattle.ft_model.specs.declared.script.Kind.{Kind}
 use Rattle.ft_trace.specs.declared.View.{View}
 use Rattle.ft_trace.specs.Acts.{has_committed}
+use Rattle.ft_trace.specs.Boxes.{references_held}
 use Rattle.ft_trace.specs.Holds.{held_unboxed, known_state}
 use Rattle.ft_trace.specs.Pictures.{entry_field}
 use Rattle.ft_trace.specs.ContainerStates.{kind_in}
@@ -14,7 +15,6 @@ use Rattle.ft_trace.specs.EntryWrites.{value_puts}
 use Rattle.ft_search.specs.OneEntryWrites.{with_value_at, Leaves}
 use Rattle.ft_search.proofs.Changing.{Changing, kind_is}
 use Rattle.ft_search.proofs.OtherValues.{ValueLaws, values_known}
-use Rattle.ft_search.proofs.Puts.{same_done}
 use Rattle.ft_search.proofs.ReadyCommits.{entry_finishes, whole_root, whole_write, writes_begun}
 use Rattle.ft_search.proofs.valuing.set_entry.Goals as goal
 use Rattle.ft_search.proofs.valuing.set_entry.Goals.{After-start_write, After-words_follow_a_dict}
@@ -58,7 +58,7 @@ change w c =
 pub put_value-requires-clause-writes : goal.put_value-requires-clause-writes
 put_value-requires-clause-writes c =
     let a = c.args in
-    writes_begun (shape_of a.bank.now) a.d a.table (view a.pass.now) (view c.start_write.new.pass) c.start_write.result c.start_write.ensures.1 c.requires.may c.requires.table
+    writes_begun (shape_of a.bank.now) a.d a.table (view a.pass.now) (view c.start_write.new.pass) c.start_write.result c.requires.pass.1 c.start_write.ensures.1 c.requires.may c.requires.table
 
 pub put_value-requires-clause-place : goal.put_value-requires-clause-place
 put_value-requires-clause-place c = c.requires.entry.low
@@ -114,9 +114,5 @@ returns-clause-root c =
     whole_root a.d (view a.pass.now) (view c.start_write.new.pass) (view c.put_value.new.pass) c.start_write.result c.start_write.ensures.1 c.put_value.ensures.only a.called.now a.said.now c.finish_entry.result (view c.finish_entry.new.pass) c.requires.leaves.changed c.finish_entry.ensures.ends (c.put_value.ensures.writes.root ∙ sym c.requires.table.root)
 
 pub returns-clause-references : goal.returns-clause-references
-returns-clause-references c =
-    let a = c.args in
-    let v = view a.pass.now in
-    let u = view c.put_value.new.pass in
-    let same = same_done (shape_of a.bank.now) v u c.requires.pass.1 c.put_value.ensures.pass.1 c.requires.may.boxes c.put_value.ensures.writes.boxes in
-    λ b. c.finish_entry.ensures.references b ∙ same b
+returns-clause-references c b =
+    c.finish_entry.ensures.references b ∙ (c.put_value.ensures.references b ∙ ap (λ (z : View). references_held z.shape b z.log) c.start_write.ensures.1)

@@ -7,7 +7,6 @@ use Rattle.ft_model.specs.declared.reply.Reply.TheVariants as reply
 use Rattle.ft_bank.specs.Answered.{Answered}
 use Rattle.ft_bank.specs.Passes.{shape_of, view}
 use Rattle.ft_table_calls.proofs.GrowthMidst.{making_added, making_given}
-use Rattle.ft_new_keys.proofs.Cursors.{puts_cursors}
 use Rattle.ft_merging.proofs.JoinedCalls.{joins_cursors}
 use Rattle.ft_parting.proofs.PartedSets.{parts_cursors}
 use Rattle.ft_reads.proofs.CopyMidst.{making_copied}

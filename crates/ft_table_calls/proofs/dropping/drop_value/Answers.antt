@@ -4,16 +4,16 @@ use Rattle.ft_trace.specs.declared.Act.TheVariants.{ReadTable}
 use Rattle.ft_trace.specs.declared.Shape.{Shape}
 use Rattle.ft_trace.specs.declared.View.{View}
 use Rattle.ft_trace.specs.Addresses.{IsBoxName}
-use Rattle.ft_trace.specs.Boxes.{names_box, references_held}
+use Rattle.ft_trace.specs.Boxes.{names_box, references_held, IsSettled}
 use Rattle.ft_trace.specs.Holds.{in_hand}
 use Rattle.ft_bank.specs.Passes.{shape_of, view}
 use Rattle.ft_bank.specs.TableNames.{table_id}
 use Rattle.ft_bank.specs.Whole.{OnlyLoaded}
-use Rattle.ft_bank.proofs.BoxedSteps.{made_then}
+use Rattle.ft_bank.proofs.DoneBoxes.{settled_then, stays_settled_same}
 use Rattle.ft_bank.proofs.KnownAfterWrites.{boxed_then, loaded_boxed, loaded_by, loaded_then}
 use Rattle.ft_search.proofs.Overs.{boxed_names, other_way, plain_names}
-use Rattle.ft_table_calls.specs.Dropping.{SharesBoxes}
-use Rattle.ft_table_calls.proofs.Dropped.{hand_same, held_is_box, held_loaded, shares_still}
+use Rattle.ft_search.proofs.Owning.{held_is_box}
+use Rattle.ft_table_calls.proofs.Dropped.{hand_same, held_loaded}
 use Rattle.ft_table_calls.proofs.dropping.drop_value.Goals as goal
 use Rattle.ft_table_calls.proofs.dropping.drop_value.Goals.{After-read_word-kind, After-read_word-named}
 
@@ -55,8 +55,8 @@ module _ (c : After-read_word-named) where
       let now = subst (λ (b : ℕ). 0 < references_held (shape_of c.args.bank.now) b u.log) (sym named_is) (c.requires.held four) in
       subst (λ (n : ℕ). 0 < n) (sym (held_loaded (shape_of c.args.bank.now) u w c.requires.pass.1 loads c.read_word-named.result)) now
 
-  shared : SharesBoxes (view c.read_word-named.new.pass)
-  shared = shares_still u w loads.boxes.made c.requires.shared
+  settled : IsSettled (view c.read_word-named.new.pass).log
+  settled = (stays_settled_same u w loads.boxes.made).settled c.requires.settled
 
 pub read_word-kind-requires-clause-word : goal.read_word-kind-requires-clause-word
 read_word-kind-requires-clause-word c = let n = c.requires.word in omega (arith, n)
@@ -73,14 +73,11 @@ release-requires-clause-name c =
     subst (λ (z : Shape). IsBoxName z c.read_word-named.result) shape
     (held_is_box w c.read_word-named.result c.read_word-named.new.pass.possible (subst (λ (z : Shape). 0 < references_held z c.read_word-named.result w.log) (sym shape) (held d)))
 
-pub release-requires-clause-shared : goal.release-requires-clause-shared
-release-requires-clause-shared c = (shared (goal.at.release-requires-clause-shared c).After-read_word-named c.read_word-named.result).0
-
 pub release-requires-clause-held : goal.release-requires-clause-held
 release-requires-clause-held c = held (goal.at.release-requires-clause-held c).After-read_word-named
 
-pub release-requires-clause-none : goal.release-requires-clause-none
-release-requires-clause-none c = (shared (goal.at.release-requires-clause-none c).After-read_word-named c.read_word-named.result).1
+pub release-requires-clause-settled : goal.release-requires-clause-settled
+release-requires-clause-settled c = settled (goal.at.release-requires-clause-settled c).After-read_word-named
 
 -- ---- a value in place
 
@@ -89,7 +86,8 @@ returns-then-kind-ne-BOX_KIND-clause-only c =
     loaded_boxed (view c.args.pass.now) (view c.read_word-kind.new.pass) (load_kind (goal.at.returns-then-kind-ne-BOX_KIND-clause-only c).After-read_word-kind)
 
 pub returns-then-kind-ne-BOX_KIND-clause-made : goal.returns-then-kind-ne-BOX_KIND-clause-made
-returns-then-kind-ne-BOX_KIND-clause-made c = (load_kind (goal.at.returns-then-kind-ne-BOX_KIND-clause-made c).After-read_word-kind).boxes.made
+returns-then-kind-ne-BOX_KIND-clause-made c =
+    stays_settled_same (view c.args.pass.now) (view c.read_word-kind.new.pass) (load_kind (goal.at.returns-then-kind-ne-BOX_KIND-clause-made c).After-read_word-kind).boxes.made
 
 pub returns-then-kind-ne-BOX_KIND-clause-references : goal.returns-then-kind-ne-BOX_KIND-clause-references
 returns-then-kind-ne-BOX_KIND-clause-references c b =
@@ -109,7 +107,8 @@ returns-clause-only c =
 pub returns-clause-made : goal.returns-clause-made
 returns-clause-made c =
     let d = (goal.at.returns-clause-made c).After-read_word-named in
-    made_then (view c.args.pass.now) (view c.read_word-named.new.pass) (view c.release.new.pass) (loads d).boxes.made c.release.ensures.made
+    settled_then (view c.args.pass.now) (view c.read_word-named.new.pass) (view c.release.new.pass) (stays_settled_same (view c.args.pass.now) (view c.read_word-named.new.pass) (loads d).boxes.made)
+    (record { settled = λ s. c.release.ensures.settled; places = c.release.ensures.places })
 
 pub returns-clause-references : goal.returns-clause-references
 returns-clause-references c b =

@@ -10,18 +10,19 @@ use Rattle.ft_trace.specs.Sums.{sum_to}
 use Rattle.ft_trace.proofs.ReadTables.{value_low}
 use Rattle.ft_bank.specs.Passes.{shape_of, view}
 use Rattle.ft_bank.specs.TableNames.{table_id}
-use Rattle.ft_bank.proofs.BoxedSteps.{made_same, made_then}
+use Rattle.ft_bank.proofs.BoxedSteps.{made_same}
+use Rattle.ft_bank.proofs.DoneBoxes.{settled_then, stays_settled_same}
 use Rattle.ft_bank.proofs.KnownAfterWrites.{boxed_then, loaded_boxed}
 use Rattle.ft_search.proofs.Calling.{loaded_same}
 use Rattle.ft_search.proofs.Puts.{table_class}
-use Rattle.ft_table_calls.proofs.Dropped.{hand_same, left_held, left_none, left_then, shares_still}
+use Rattle.ft_table_calls.proofs.Dropped.{hand_same, left_held, left_then}
 use Rattle.ft_table_calls.proofs.dropping.drop_values.Goals as goal
 use Rattle.ft_table_calls.proofs.dropping.drop_values.Goals.{In-loop-row}
 
 pub loop-row-init : goal.loop-row-init
 loop-row-init c =
     let v = view c.args.pass.now in
-    record { pass = c.requires.pass; stack = refl; only = loaded_boxed v v (loaded_same v); made = made_same v; left = λ b. let e = c.requires.held b in omega (arith, e) }
+    record { pass = c.requires.pass; stack = refl; only = loaded_boxed v v (loaded_same v); made = stays_settled_same v v (made_same v); left = λ b. omega arith }
 
 -- the value of the row lies inside the table
 row_low : (c : In-loop-row) → c.loop-row.row < rows (kind_in (shape_of c.args.bank.now).starts c.args.o) (class_of (table_id c.args.table))
@@ -69,8 +70,8 @@ drop_value-requires-clause-word c =
     let n = row_inside d in
     omega (arith, is, n)
 
-pub drop_value-requires-clause-shared : goal.drop_value-requires-clause-shared
-drop_value-requires-clause-shared c = shares_still (view c.args.pass.now) (view c.loop-row.pass) c.loop-row.invariant.made c.requires.shared
+pub drop_value-requires-clause-settled : goal.drop_value-requires-clause-settled
+drop_value-requires-clause-settled c = c.loop-row.invariant.made.settled c.requires.settled
 
 pub drop_value-requires-clause-held : goal.drop_value-requires-clause-held
 drop_value-requires-clause-held c =
@@ -83,7 +84,7 @@ drop_value-requires-clause-held c =
     let same = hand_now d in
     let is = row_at d in
     let next : suc (value_at kd class c.loop-row.row) ≡ word + 1 = omega (arith, is) in
-    let held = left_held kd class hand (λ b. references_held k b (view c.loop-row.pass).log) c.loop-row.row (rows kd class) (row_low d) c.loop-row.invariant.left in
+    let held = left_held kd class hand (λ b. references_held k b (view c.args.pass.now).log) (λ b. references_held k b (view c.loop-row.pass).log) c.loop-row.row (rows kd class) (row_low d) c.requires.held c.loop-row.invariant.left in
     λ four.
     subst (λ (n : ℕ). 0 < references_held k n (view c.loop-row.pass).log) (λ i. slice_index (sym same i) (next i))
     (held ((λ i. slice_index (sym same i) (is i)) ∙ four))
@@ -110,10 +111,10 @@ loop-row-preserved c =
       pass = e.pass;
       stack = e.stack ∙ i.stack;
       only = boxed_then u v w i.only e.only;
-      made = made_then u v w i.made e.made;
+      made = settled_then u v w i.made e.made;
       left = λ b.
           ap (λ (n : ℕ). references_held k b w.log + sum_to (names_box_at b kd class hand) n) more
-          ∙ left_then kd class hand (λ b. references_held k b v.log) row (rows kd class) (row_low d) i.left (λ b. references_held k b w.log)
+          ∙ left_then kd class hand (λ b. references_held k b u.log) (λ b. references_held k b v.log) row (rows kd class) (row_low d) c.requires.held i.left (λ b. references_held k b w.log)
           (λ b. e.references b ∙ (λ j. references_held k b w.log + names_box b (slice_index (same j) (sym is j)) (slice_index (same j) (sym next j)))) b;
     }
 
@@ -123,8 +124,8 @@ returns-clause-only c = c.loop-row.invariant.only
 pub returns-clause-made : goal.returns-clause-made
 returns-clause-made c = c.loop-row.invariant.made
 
-pub returns-clause-none : goal.returns-clause-none
-returns-clause-none c b =
+pub returns-clause-references : goal.returns-clause-references
+returns-clause-references c b =
     let k = shape_of c.args.bank.now in
     let kd : Kind = kind_in k.starts c.args.o in
     let class = class_of (table_id c.args.table) in
@@ -133,4 +134,4 @@ returns-clause-none c b =
     let end = c.loop-row.auto.row-end in
     let is = c.requires.places.0 in
     let all : c.loop-row.row ≡ rows kd class = omega (arith, past, end, is) in
-    left_none (names_box_at b kd class hand) (references_held k b (view c.loop-row.pass).log) c.loop-row.row (rows kd class) all (c.loop-row.invariant.left b)
+    ap (λ (n : ℕ). references_held k b (view c.loop-row.pass).log + sum_to (names_box_at b kd class hand) n) (sym all) ∙ c.loop-row.invariant.left b

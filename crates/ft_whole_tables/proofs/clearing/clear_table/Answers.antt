@@ -3,7 +3,7 @@ use Rattle.ft_model.specs.declared.script.Kind.{Kind}
 use Rattle.ft_bank.specs.Passes.{shape_of, view}
 use Rattle.ft_bank.proofs.TableAddresses.{class_is}
 use Rattle.ft_table_calls.specs.Dropping.{AreValuePlaces}
-use Rattle.ft_whole_tables.proofs.Emptied.{Emptying, may_put_none, emptying_bare, emptying_commits, emptying_references, emptying_shut, emptying_stands, emptying_wrote, rooted_bare, table_named_held, table_out, table_shared}
+use Rattle.ft_whole_tables.proofs.Emptied.{Emptying, may_put_none, emptying_bare, emptying_commits, emptying_references, emptying_shut, emptying_stands, emptying_wrote, rooted_bare, table_named_held, table_out, table_settled}
 use Rattle.ft_whole_tables.proofs.clearing.clear_table.Goals as goal
 use Rattle.ft_whole_tables.proofs.clearing.clear_table.Goals.{After-put_no_counts}
 
@@ -22,9 +22,9 @@ drop_values-requires-clause-places c =
     let is = class_is a.table c.requires.table.table_in.2 in
     subst (λ (z : Kind × ℕ). AreValuePlaces z.0 z.1 c.value_places-places.result) (λ i. (sym c.requires.kind i, sym is i)) c.value_places-places.ensures
 
-pub drop_values-requires-clause-shared : goal.drop_values-requires-clause-shared
-drop_values-requires-clause-shared c =
-    table_shared (shape_of c.args.bank.now) c.args.o c.args.table c.start_write.result (view c.args.pass.now) (view c.start_write.new.pass) (view c.put_root.new.pass) c.requires.pass.1 c.requires.may c.requires.table c.start_write.ensures.1 c.put_root.ensures.did.1 c.put_root.ensures.moves (rooted_bare (shape_of c.args.bank.now) c.args.o c.start_write.result (view c.args.pass.now) (view c.start_write.new.pass) (view c.put_root.new.pass) c.requires.may c.start_write.ensures.1 c.put_root.ensures.unboxed)
+pub drop_values-requires-clause-settled : goal.drop_values-requires-clause-settled
+drop_values-requires-clause-settled c =
+    table_settled (shape_of c.args.bank.now) c.args.o c.args.table c.start_write.result (view c.args.pass.now) (view c.start_write.new.pass) (view c.put_root.new.pass) c.requires.pass.1 c.requires.may c.requires.table c.start_write.ensures.1 c.put_root.ensures.did.1 c.put_root.ensures.moves (rooted_bare (shape_of c.args.bank.now) c.args.o c.start_write.result (view c.args.pass.now) (view c.start_write.new.pass) (view c.put_root.new.pass) c.requires.may c.start_write.ensures.1 c.put_root.ensures.unboxed)
 
 pub drop_values-requires-clause-held : goal.drop_values-requires-clause-held
 drop_values-requires-clause-held c =
@@ -45,7 +45,7 @@ emptying c = record {
   moves = c.put_root.ensures.moves;
   drops = c.drop_values.ensures.only;
   made = c.drop_values.ensures.made;
-  none = c.drop_values.ensures.none;
+  dropped = c.drop_values.ensures.references;
   puts = c.put_no_counts.ensures.only;
   words = c.put_no_counts.ensures.words;
 }

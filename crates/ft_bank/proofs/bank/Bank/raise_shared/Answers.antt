@@ -21,7 +21,7 @@ exchange_as-requires-clause-ready c =
     let same = c.requires.pass.1 in
     let is = box_named k c.args.b c.args.self.now.fits.heap c.requires.name in
     let j = c.box_at-at.result in
-    subst (λ (z : ℕ). Ready v j (λ n. RaiseShared z c.args.old n)) (sym c.name_of.ensures) (raise_shared_ready k v j b same is c.args.old c.requires.shared c.requires.live (let l = c.ranges.old.fits in omega (arith, l)) c.requires.few)
+    subst (λ (z : ℕ). Ready v j (λ n. RaiseShared z c.args.old n)) (sym c.name_of.ensures) (raise_shared_ready k v j b same is c.args.old c.requires.shared c.requires.live (let l = c.ranges.old.fits in omega (arith, l)) c.requires.few c.requires.saw)
 
 pub returns-clause-did : goal.returns-clause-did
 returns-clause-did c =

@@ -1,5 +1,5 @@
-use Rattle.std.proofs.Common.{◌≡◌, ℕ, suc, refl, sym, ap, ◌∙◌, subst, arith}
-use Rattle.ft_trace.specs.Addresses.{at, box_word, maker_of}
+use Rattle.std.proofs.Common.{ℕ, refl, sym, ap, ◌∙◌, subst, arith}
+use Rattle.ft_trace.specs.Addresses.{at, box_word}
 use Rattle.ft_trace.specs.Acts.{view_after}
 use Rattle.ft_trace.specs.Traces.{Ready}
 use Rattle.ft_trace.specs.declared.Act.TheVariants.{ReadBox}

@@ -28,7 +28,7 @@ mask_as-requires-clause-ready c =
     let m = maker_is c.args.b (place_low (shape_of c.args.self.now) c.args.b c.args.self.now.fits.heap c.requires.name) in
     let mine = c.requires.maker in
     let name : c.from.result ≡ box_id c.args.b = c.from.ensures ∙ c.name_of.ensures in
-    subst (λ (z : ℕ). ReadyAs v j (λ n s. TakePlace z n)) (sym name) (take_ready k v j b same is (omega (arith, mine, m)) c.requires.apart.0 c.requires.apart.1)
+    subst (λ (z : ℕ). ReadyAs v j (λ n s. TakePlace z n)) (sym name) (take_ready k v j b same is (omega (arith, mine, m)) c.requires.apart.0 c.requires.apart.1 c.requires.idle)
 
 pub returns-clause-did : goal.returns-clause-did
 returns-clause-did c =

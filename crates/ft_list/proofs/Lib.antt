@@ -34,4 +34,3 @@ pub mod Extending
 pub mod Undisturbed
 pub mod ListTries
 pub mod HeldWrites
-pub mod AddedHeld

@@ -54,8 +54,8 @@ fn is_class_earned(parts: &ScriptParts, account: &TableAccount, class: u32) -> b
     u64::from(tables).saturating_sub(others) <= taken
 }
 
-/// Whether the call would put a value in a box, raises nothing else, and all places of the thread's heap
-/// can be in use, of which it has used that many, where the call passes no largest table.
+/// Whether the call, which passes no largest table, would put a value in a box and raises nothing else,
+/// and that many boxings of the thread can have filled its heap.
 fn is_heap_earned(parts: &ScriptParts, world: &World, boxed: u64, call: &Call) -> bool
     requires { AreOfKind world.now call.now }
     ensures { (calls : List Call) (mine : List Entry) → world.now ≡ (stored_after parts.now calls).world → boxed ≡ boxings (starts_of parts.now.containers) calls mine → would_pass world.now call.now ≡ false → IsTrue result ↔ IsHeapEarned (starts_of parts.now.containers) parts.now.heap calls mine call.now }

@@ -7,6 +7,7 @@
 mod answers;
 mod course;
 mod fills;
+mod known;
 mod operation;
 mod outcome;
 mod pairs;

@@ -4,6 +4,7 @@ ghost use Rattle.ft_engine.specs.Callers.{IsFreeCaller};
 
 use crate::answers::{answer, answer_known};
 use crate::course::Course;
+use crate::known::{add, append, discard, get, has, item, set};
 use crate::operation::Operation;
 use crate::pairs::{fill, watch};
 use crate::plan::Site;
@@ -72,43 +73,7 @@ fn call<R: Wait>(rt: &R, engine: &Engine, alloc: Global, worker: &mut Worker, op
     worker.tally.count(operation, &reply);
 }
 
-/// Sets the value at a key.
-#[inline(never)]
-fn set<R: Wait>(rt: &R, engine: &Engine, alloc: Global, worker: &mut Worker, key: u32)
-    requires { IsReadyCaller engine.now worker.old.caller }
-    ensures { IsReadyCaller engine.now worker.new.caller }
-{
-    call(rt, engine, alloc, worker, Operation::Set(key));
-}
-
-/// Appends an item.
-#[inline(never)]
-fn append<R: Wait>(rt: &R, engine: &Engine, alloc: Global, worker: &mut Worker, key: u32)
-    requires { IsReadyCaller engine.now worker.old.caller }
-    ensures { IsReadyCaller engine.now worker.new.caller }
-{
-    call(rt, engine, alloc, worker, Operation::Append(key));
-}
-
-/// Adds an element.
-#[inline(never)]
-fn add<R: Wait>(rt: &R, engine: &Engine, alloc: Global, worker: &mut Worker, key: u32)
-    requires { IsReadyCaller engine.now worker.old.caller }
-    ensures { IsReadyCaller engine.now worker.new.caller }
-{
-    call(rt, engine, alloc, worker, Operation::Add(key));
-}
-
-/// Discards an element.
-#[inline(never)]
-fn discard<R: Wait>(rt: &R, engine: &Engine, alloc: Global, worker: &mut Worker, key: u32)
-    requires { IsReadyCaller engine.now worker.old.caller }
-    ensures { IsReadyCaller engine.now worker.new.caller }
-{
-    call(rt, engine, alloc, worker, Operation::Discard(key));
-}
-
-/// Makes one operation by a call. Each kind of writes has a function of its own, in which its call is known.
+/// Makes one operation by a call, apart from those that are looked or known.
 #[inline(never)]
 fn make_called<R: Wait>(
     rt: &R,
@@ -120,35 +85,26 @@ fn make_called<R: Wait>(
     requires { IsReadyCaller engine.now worker.old.caller }
     ensures { IsReadyCaller engine.now worker.new.caller }
 {
-    match operation {
-        Operation::Set(key) => set(rt, engine, alloc, worker, key),
-        Operation::Append(key) => append(rt, engine, alloc, worker, key),
-        Operation::Add(key) => add(rt, engine, alloc, worker, key),
-        Operation::Discard(key) => discard(rt, engine, alloc, worker, key),
-        Operation::Get(_) | Operation::Item(_) | Operation::Has(_) => {
-            call(rt, engine, alloc, worker, operation)
-        }
-    }
+    call(rt, engine, alloc, worker, operation);
 }
 
-/// Looks where the operation reads, with an arm for each kind, in which the call is known. Says whether it was made
-/// so.
+/// Looks, where the operation reads. Says whether it was made so.
 #[inline(always)]
-fn make_looked(engine: &Engine, alloc: Global, worker: &mut Worker, operation: Operation) -> bool
+fn make_looked(engine: &Engine, worker: &mut Worker, operation: Operation) -> bool
     requires { IsReadyCaller engine.now worker.old.caller }
     ensures { IsReadyCaller engine.now worker.new.caller }
 {
     match operation {
-        Operation::Get(key) => look(engine, alloc, worker, Operation::Get(key)),
-        Operation::Item(index) => look(engine, alloc, worker, Operation::Item(index)),
-        Operation::Has(key) => look(engine, alloc, worker, Operation::Has(key)),
+        Operation::Get(number) => get(engine, worker, number),
+        Operation::Item(index) => item(engine, worker, index),
+        Operation::Has(number) => has(engine, worker, number),
         Operation::Set(_) | Operation::Append(_) => false,
         Operation::Add(_) | Operation::Discard(_) => false,
     }
 }
 
-/// Makes one operation, and counts it: by a look where it reads and isn't contended. Each kind of operation makes its
-/// call at a place of its own.
+/// Makes one operation, and counts it, by the method of its call: one that reads by a look, and by a call where that was
+/// contended.
 #[inline(always)]
 fn make_known<R: Wait>(
     rt: &R,
@@ -160,8 +116,16 @@ fn make_known<R: Wait>(
     requires { IsReadyCaller engine.now worker.old.caller }
     ensures { IsReadyCaller engine.now worker.new.caller }
 {
-    if !make_looked(engine, alloc, worker, operation) {
-        make_called(rt, engine, alloc, worker, operation);
+    match operation {
+        Operation::Set(number) => set(rt, engine, alloc, worker, number),
+        Operation::Append(number) => append(rt, engine, alloc, worker, number),
+        Operation::Add(number) => add(rt, engine, alloc, worker, number),
+        Operation::Discard(number) => discard(rt, engine, alloc, worker, number),
+        Operation::Get(_) | Operation::Item(_) | Operation::Has(_) => {
+            if !make_looked(engine, worker, operation) {
+                make_called(rt, engine, alloc, worker, operation);
+            }
+        }
     }
 }
 

@@ -49,6 +49,7 @@ fn end_call(engine: &Engine, worker: &mut Worker, operation: Operation, called: 
 }
 
 /// Gets the value at a key by a look. Says whether it was made.
+#[inline(always)]
 pub(crate) fn get(engine: &Engine, worker: &mut Worker, number: u32) -> bool
     requires { IsReadyCaller engine.now worker.old.caller }
     ensures { IsReadyCaller engine.now worker.new.caller }
@@ -62,6 +63,7 @@ pub(crate) fn get(engine: &Engine, worker: &mut Worker, number: u32) -> bool
 }
 
 /// Gets the item at an index by a look. Says whether it was made.
+#[inline(always)]
 pub(crate) fn item(engine: &Engine, worker: &mut Worker, index: u32) -> bool
     requires { IsReadyCaller engine.now worker.old.caller }
     ensures { IsReadyCaller engine.now worker.new.caller }
@@ -74,6 +76,7 @@ pub(crate) fn item(engine: &Engine, worker: &mut Worker, index: u32) -> bool
 }
 
 /// Looks an element up. Says whether that was made.
+#[inline(always)]
 pub(crate) fn has(engine: &Engine, worker: &mut Worker, number: u32) -> bool
     requires { IsReadyCaller engine.now worker.old.caller }
     ensures { IsReadyCaller engine.now worker.new.caller }

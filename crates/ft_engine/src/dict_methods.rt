@@ -78,7 +78,6 @@ impl Engine {
     }
 
     /// `d[k] = v`, of a key and its value: what `call` answers for it.
-    #[inline(always)]
     pub fn dict_set<R: Wait>(
         &self,
         rt: &R,

@@ -60,7 +60,6 @@ impl Engine {
     }
 
     /// `l.append(v)`: what `call` answers for it.
-    #[inline(always)]
     pub fn list_append<R: Wait>(
         &self,
         rt: &R,

@@ -36,14 +36,14 @@ pub record IsLookFor (e : Engine) (called : Call) (answer : Look) (c d : Caller)
 -- This call led from the first caller to the second, tried until it was done: the same caller, with the entry of its
 -- answer more, which is of this very call. Its entries are right by the writes so far, and only a call that was refused
 -- memory is still in flight. (profile)
-pub record IsCallFor (e : Engine) (called : Call) (answer : Called) (c d : Caller) : Type 0 where
+pub record IsCallFor (e : Engine) (asked : Call) (answer : Called) (c d : Caller) : Type 0 where
   pub caller : IsCallerOf e d
   pub same : StaysCaller c d
-  pub flight : flight_after called (last_of answer) (flight_of d)
+  pub flight : flight_after asked (last_of answer) (flight_of d)
   pub kept : (mine : List NamedEntry) → WasAnswered c mine
-      → WasAnswered d (entries_with_answer (thread_of c) called (last_of answer) mine)
-  pub called : IsCalled e called answer c d
-  pub own : HasOwnAnswer called (last_of answer) c d
+      → WasAnswered d (entries_with_answer (thread_of c) asked (last_of answer) mine)
+  pub called : IsCalled e asked answer c d
+  pub own : HasOwnAnswer asked (last_of answer) c d
   pub right : (mine : List NamedEntry) → WasAnswered c mine
-      → IsAnsweredRight d (entries_with_answer (thread_of c) called (last_of answer) mine)
+      → IsAnsweredRight d (entries_with_answer (thread_of c) asked (last_of answer) mine)
   pub found_none : MemoryErrorsAreFound (view (pass_of d))

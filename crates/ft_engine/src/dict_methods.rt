@@ -1,6 +1,5 @@
 //! Calls on dicts that are known where they are made: a method for each. None of them builds the call and matches it,
 //! as `look` and `call` do, and what they promise is the same, for the call that it is.
-ghost use Rattle.std.specs.Prelude.{◌≡◌};
 ghost use Rattle.ft_model.specs.declared.call.Call.TheVariants as calls;
 ghost use Rattle.ft_model.specs.declared.call.DictCall.TheVariants as dict;
 ghost use Rattle.ft_engine.specs.Attempts.{MayAttempt};
@@ -16,14 +15,6 @@ use ft_model::{Call, DictCall, Key, Value};
 use ft_section::{Look, Object};
 use std::alloc::Global;
 use std::sync::Wait;
-
-/// A call on a dict.
-#[inline(always)]
-fn on_dict(d: Object, call: DictCall) -> Call
-    ensures { result ≡ calls.Dict d call }
-{
-    Call::Dict { container: d, call }
-}
 
 impl Engine {
     /// `d[k]` by a look: what `look` answers for it.
@@ -91,7 +82,10 @@ impl Engine {
         ensures { IsCallFor self.now (calls.Dict d (dict.Set pair.0 pair.1)) result caller.old caller.new }
     {
         let (key, value) = pair;
-        let call = on_dict(d, DictCall::Set { key, value });
+        let call = Call::Dict {
+            container: d,
+            call: DictCall::Set { key, value },
+        };
         if !caller.is_free() {
             return self.call_in_turn(rt, alloc, caller, &call);
         }
@@ -113,7 +107,10 @@ impl Engine {
         ensures { IsCallFor self.now (calls.Dict d (dict.Del key)) result caller.old caller.new }
     {
         let asked = DictCall::Del { key };
-        let call = on_dict(d, asked);
+        let call = Call::Dict {
+            container: d,
+            call: asked,
+        };
         if !caller.is_free() {
             return self.call_in_turn(rt, alloc, caller, &call);
         }
@@ -135,7 +132,10 @@ impl Engine {
         ensures { IsCallFor self.now (calls.Dict d (dict.Pop key)) result caller.old caller.new }
     {
         let asked = DictCall::Pop { key };
-        let call = on_dict(d, asked);
+        let call = Call::Dict {
+            container: d,
+            call: asked,
+        };
         if !caller.is_free() {
             return self.call_in_turn(rt, alloc, caller, &call);
         }
@@ -158,7 +158,10 @@ impl Engine {
     {
         let (key, default) = pair;
         let asked = DictCall::SetDefault { key, default };
-        let call = on_dict(d, asked);
+        let call = Call::Dict {
+            container: d,
+            call: asked,
+        };
         if !caller.is_free() {
             return self.call_in_turn(rt, alloc, caller, &call);
         }

@@ -1,5 +1,4 @@
 //! Calls on lists that are known where they are made: a method for each, as for dicts.
-ghost use Rattle.std.specs.Prelude.{◌≡◌};
 ghost use Rattle.ft_model.specs.declared.call.Call.TheVariants as calls;
 ghost use Rattle.ft_model.specs.declared.call.ListCall.TheVariants as list;
 ghost use Rattle.ft_engine.specs.Attempts.{MayAttempt};
@@ -15,14 +14,6 @@ use ft_model::{Call, ListCall, Value};
 use ft_section::{Look, Object};
 use std::alloc::Global;
 use std::sync::Wait;
-
-/// A call on a list.
-#[inline(always)]
-fn on_list(l: Object, call: ListCall) -> Call
-    ensures { result ≡ calls.List l call }
-{
-    Call::List { container: l, call }
-}
 
 impl Engine {
     /// `l[i]` by a look: what `look` answers for it.
@@ -72,7 +63,10 @@ impl Engine {
         requires may { MayAttempt self.now caller.old (calls.List l (list.Append value)) }
         ensures { IsCallFor self.now (calls.List l (list.Append value)) result caller.old caller.new }
     {
-        let call = on_list(l, ListCall::Append { value });
+        let call = Call::List {
+            container: l,
+            call: ListCall::Append { value },
+        };
         if !caller.is_free() {
             return self.call_in_turn(rt, alloc, caller, &call);
         }
@@ -95,7 +89,10 @@ impl Engine {
     {
         let (index, value) = item;
         let asked = ListCall::Set { index, value };
-        let call = on_list(l, asked);
+        let call = Call::List {
+            container: l,
+            call: asked,
+        };
         if !caller.is_free() {
             return self.call_in_turn(rt, alloc, caller, &call);
         }
@@ -117,7 +114,10 @@ impl Engine {
         ensures { IsCallFor self.now (calls.List l (list.Pop index)) result caller.old caller.new }
     {
         let asked = ListCall::Pop { index };
-        let call = on_list(l, asked);
+        let call = Call::List {
+            container: l,
+            call: asked,
+        };
         if !caller.is_free() {
             return self.call_in_turn(rt, alloc, caller, &call);
         }

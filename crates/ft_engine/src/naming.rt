@@ -132,12 +132,13 @@ impl Engine {
                 || caller.left() > 0 && caller.fits(call) && self.has_named(caller, call))
     }
 
-    /// Whether a caller that is in no call has one left, and the container that the call names is there.
+    /// Whether a caller is in no call and has one left, and the container and the key that a call names are there.
     #[inline(always)]
-    fn may_on(&self, caller: &Caller, kind: Kind, o: Object) -> bool
-        ensures { IsTrue result ↔ (IsIdle caller.now × (0 < left_of caller.now) × IsOfKindIn (shape_of self.now.bank) kind o) }
+    fn may_name(&self, caller: &Caller, kind: Kind, o: Object, key: Option<Key>) -> bool
+        ensures { IsTrue result ↔ (IsIdle caller.now × (0 < left_of caller.now)
+            × IsOfKindIn (shape_of self.now.bank) kind o × HasKeyIn (shape_of self.now.bank) key) }
     {
-        caller.is_idle() && caller.left() > 0 && self.is_of_kind(kind, o)
+        caller.is_idle() && caller.left() > 0 && self.is_of_kind(kind, o) && self.has_key(key)
     }
 
     /// Whether a caller that is online may make the calls that name this dict and this key: no call is in flight, the
@@ -147,7 +148,7 @@ impl Engine {
         requires online { 0 < announces (view (pass_of caller.now)).log }
         ensures { IsTrue result ↔ (IsIdle caller.now × MayAtKey self.now caller.now d key) }
     {
-        self.may_on(caller, Kind::Dict, d) && self.has_key(Some(key))
+        self.may_name(caller, Kind::Dict, d, Some(key))
     }
 
     /// Whether a caller that is online may make the calls that name this list alone: no call is in flight, the caller
@@ -157,7 +158,7 @@ impl Engine {
         requires online { 0 < announces (view (pass_of caller.now)).log }
         ensures { IsTrue result ↔ (IsIdle caller.now × MayOnList self.now caller.now l) }
     {
-        self.may_on(caller, Kind::List, l)
+        self.may_name(caller, Kind::List, l, None)
     }
 
     /// Whether a caller that is online may make the calls that name this set and this element: no call is in flight, the
@@ -167,6 +168,6 @@ impl Engine {
         requires online { 0 < announces (view (pass_of caller.now)).log }
         ensures { IsTrue result ↔ (IsIdle caller.now × MayAtElement self.now caller.now s key) }
     {
-        self.may_on(caller, Kind::Set, s) && self.has_key(Some(key))
+        self.may_name(caller, Kind::Set, s, Some(key))
     }
 }

@@ -1,5 +1,4 @@
 //! Calls on sets that are known where they are made: a method for each, as for dicts.
-ghost use Rattle.std.specs.Prelude.{◌≡◌};
 ghost use Rattle.ft_model.specs.declared.call.Call.TheVariants as calls;
 ghost use Rattle.ft_model.specs.declared.call.SetCall.TheVariants as set;
 ghost use Rattle.ft_engine.specs.Attempts.{MayAttempt};
@@ -15,14 +14,6 @@ use ft_section::{Look, Object};
 use ft_set::{look_has, look_len};
 use std::alloc::Global;
 use std::sync::Wait;
-
-/// A call on a set.
-#[inline(always)]
-fn on_set(s: Object, call: SetCall) -> Call
-    ensures { result ≡ calls.Set s call }
-{
-    Call::Set { container: s, call }
-}
 
 impl Engine {
     /// `k in s` by a look: what `look` answers for it.
@@ -73,7 +64,10 @@ impl Engine {
         requires may { MayAttempt self.now caller.old (calls.Set s (set.Add key)) }
         ensures { IsCallFor self.now (calls.Set s (set.Add key)) result caller.old caller.new }
     {
-        let call = on_set(s, SetCall::Add { key });
+        let call = Call::Set {
+            container: s,
+            call: SetCall::Add { key },
+        };
         if !caller.is_free() {
             return self.call_in_turn(rt, alloc, caller, &call);
         }
@@ -95,7 +89,10 @@ impl Engine {
         requires may { MayAttempt self.now caller.old (calls.Set s (set.Discard key)) }
         ensures { IsCallFor self.now (calls.Set s (set.Discard key)) result caller.old caller.new }
     {
-        let call = on_set(s, SetCall::Discard { key });
+        let call = Call::Set {
+            container: s,
+            call: SetCall::Discard { key },
+        };
         if !caller.is_free() {
             return self.call_in_turn(rt, alloc, caller, &call);
         }

@@ -90,13 +90,7 @@ pub(crate) fn has(engine: &Engine, worker: &mut Worker, number: u32) -> bool
 }
 
 /// Sets the value at a key.
-pub(crate) fn set<R: Wait>(
-    rt: &R,
-    engine: &Engine,
-    alloc: Global,
-    worker: &mut Worker,
-    number: u32,
-)
+pub(crate) fn set<R: Wait>(rt: &R, engine: &Engine, alloc: Global, worker: &mut Worker, number: u32)
     requires { IsReadyCaller engine.now worker.old.caller }
     ensures { IsReadyCaller engine.now worker.new.caller }
 {
@@ -129,13 +123,7 @@ pub(crate) fn append<R: Wait>(
 }
 
 /// Adds an element.
-pub(crate) fn add<R: Wait>(
-    rt: &R,
-    engine: &Engine,
-    alloc: Global,
-    worker: &mut Worker,
-    number: u32,
-)
+pub(crate) fn add<R: Wait>(rt: &R, engine: &Engine, alloc: Global, worker: &mut Worker, number: u32)
     requires { IsReadyCaller engine.now worker.old.caller }
     ensures { IsReadyCaller engine.now worker.new.caller }
 {

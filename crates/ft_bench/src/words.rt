@@ -74,9 +74,7 @@ fn order_of(words: &[String]) -> Option<Order> {
     match words {
         [] | [_] => Some(Order::All),
         [_, word] if word.as_str() == "list" => Some(Order::List),
-        [_, word, rest @ ..] if word.as_str() == "any" => {
-            Some(Order::One(plan_of(rest, true)?))
-        }
+        [_, word, rest @ ..] if word.as_str() == "any" => { Some(Order::One(plan_of(rest, true)?)) }
         [_, rest @ ..] => Some(Order::One(plan_of(rest, false)?)),
     }
 }

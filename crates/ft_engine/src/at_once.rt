@@ -110,9 +110,9 @@ impl Engine {
             IsCallFor self.now call.now result first caller.new }
     {
         match step {
-            Step::Done(reply, stamp) => {
+            Step::Done(said, stamp) => {
                 caller.made += 1;
-                Called::Done(reply, stamp, None)
+                Called::Done(said, stamp, None)
             }
             Step::NotYet(object, _) => {
                 caller.keep(call);

@@ -10,7 +10,7 @@ use Rattle.ft_engine.proofs.engine.Engine.go_on.Goals as goal
 pub returns-in-Done : goal.returns-in-Done
 returns-in-Done g c first came =
     let a = c.args in
-    came_done a.self.now a.call.now first a.caller.now c.in-Done.reply c.in-Done.stamp (subst (CameAtOnce a.self.now a.call.now first a.caller.now) c.in-Done.is came)
+    came_done a.self.now a.call.now first a.caller.now c.in-Done.said c.in-Done.stamp (subst (CameAtOnce a.self.now a.call.now first a.caller.now) c.in-Done.is came)
 
 pub returns-in-NoMemory : goal.returns-in-NoMemory
 returns-in-NoMemory g c first came =

@@ -1,5 +1,3 @@
-use Rattle.ft_engine.specs.AtOnce.{CameAtOnce}
-use Rattle.ft_engine.specs.MadeCalls.{IsCallFor}
 use Rattle.ft_engine.proofs.Keeping.{no_answer_idle}
 use Rattle.ft_engine.proofs.MadeCalls.{came_from, may_lock, some_left}
 use Rattle.ft_engine.proofs.engine.Engine.call.Goals as goal

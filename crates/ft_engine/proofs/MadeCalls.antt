@@ -1,11 +1,10 @@
 -- What whole looks and whole calls promise, from what their one try comes to, or from the last of their tries.
-use Rattle.std.proofs.Common.{◌≡◌, ◌<◌, ◌+◌, ◌-◌, ◌∙◌, ◌≢◌, ℕ, refl, List, [], true, false, sym, ap, arith, subst, inl, true≢false}
-use Rattle.std.specs.Prelude.{Option, None, Some}
+use Rattle.std.proofs.Common.{◌≡◌, ◌<◌, ◌+◌, ◌∙◌, ◌≢◌, ℕ, refl, List, [], true, false, sym, ap, arith, subst, inl, true≢false}
+use Rattle.std.specs.Prelude.{Option, None}
 use Rattle.ft_model.specs.declared.call.Call.{Call}
 use Rattle.ft_model.specs.declared.cursor.Cursor.{Cursor}
 use Rattle.ft_model.specs.declared.entry.Entry.{Entry as NamedEntry}
 use Rattle.ft_model.specs.declared.reply.Reply.{Reply}
-use Rattle.ft_bank.specs.declared.bank.Bank.{Bank}
 use Rattle.ft_bank.specs.declared.pass.Pass.{Pass}
 use Rattle.ft_bank.specs.Passes.{view, IsPassOf}
 use Rattle.ft_bank.specs.PassSections.{stack_of}
@@ -17,7 +16,6 @@ use Rattle.ft_section.specs.declared.answers.Stamp.{Stamp}
 use Rattle.ft_section.specs.declared.answers.Step.{Step}
 use Rattle.ft_section.specs.declared.answers.Step.TheVariants as step
 use Rattle.ft_section.specs.Ready.{MayTry}
-use Rattle.ft_engine.specs.declared.attempts.Tried.{Tried}
 use Rattle.ft_engine.specs.declared.attempts.Tried.TheVariants as tried
 use Rattle.ft_engine.specs.declared.caller.Caller.{Caller}
 use Rattle.ft_engine.specs.declared.caller.Flight.TheVariants as flight

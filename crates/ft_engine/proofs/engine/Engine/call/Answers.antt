@@ -1,5 +1,3 @@
-use Rattle.ft_engine.specs.AtOnce.{CameAtOnce}
-use Rattle.ft_engine.specs.MadeCalls.{IsCallFor}
 use Rattle.ft_engine.proofs.Keeping.{no_answer_idle}
 use Rattle.ft_engine.proofs.MadeCalls.{came_from, may_lock, some_left}
 use Rattle.ft_engine.proofs.engine.Engine.call.Goals as goal
@@ -17,7 +15,7 @@ pub end_at_once-requires : goal.end_at_once-requires
 end_at_once-requires g c =
     let a = c.args in
     let free = c.may_at_once.ensures c.if-not-may_at_once.false in
-    (a.caller.now, came_from a.self.now a.call.now a.caller.now c.try_at_once-step.new.pass c.try_at_once-step.result c.requires.caller c.requires.may free.0 free.1 free.2 c.try_at_once-step.ensures.looked c.try_at_once-step.ensures.tried)
+    record { came = (a.caller.now, came_from a.self.now a.call.now a.caller.now c.try_at_once-step.new.pass c.try_at_once-step.result c.requires.caller c.requires.may free.0 free.1 free.2 c.try_at_once-step.ensures.looked c.try_at_once-step.ensures.tried) }
 
 pub returns-clause-caller : goal.returns-clause-caller
 returns-clause-caller g c =

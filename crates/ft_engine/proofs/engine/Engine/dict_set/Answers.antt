@@ -22,7 +22,7 @@ pub end_at_once-requires : goal.end_at_once-requires
 end_at_once-requires g c =
     let a = c.args in
     let free = c.is_free.ensures c.if-not-is_free.false in
-    (a.caller.now, locked_came a.self.now (call.Dict a.d (dict.Set a.pair.0 a.pair.1)) a.caller.now c.try_set-step.new.pass c.try_set-step.result c.requires.caller c.requires.may free.0 free.1 (record { containers = tt; no_cursor = refl }) refl c.try_set-step.ensures)
+    record { came = (a.caller.now, locked_came a.self.now (call.Dict a.d (dict.Set a.pair.0 a.pair.1)) a.caller.now c.try_set-step.new.pass c.try_set-step.result c.requires.caller c.requires.may free.0 free.1 (record { containers = tt; no_cursor = refl }) refl c.try_set-step.ensures) }
 
 pub returns : goal.returns
 returns g c =

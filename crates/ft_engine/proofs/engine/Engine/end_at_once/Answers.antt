@@ -1,6 +1,4 @@
-use Rattle.std.proofs.Common.{sym, subst}
-use Rattle.std.specs.Prelude.{None}
-use Rattle.ft_section.specs.declared.answers.Step.{Step}
+use Rattle.std.proofs.Common.{subst}
 use Rattle.ft_engine.specs.AtOnce.{CameAtOnce}
 use Rattle.ft_engine.proofs.MadeCalls.{came_done}
 use Rattle.ft_engine.proofs.engine.Engine.end_at_once.Goals as goal

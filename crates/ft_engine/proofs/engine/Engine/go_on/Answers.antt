@@ -1,5 +1,4 @@
 use Rattle.std.proofs.Common.{sym, subst}
-use Rattle.ft_engine.specs.declared.caller.Caller.{Caller}
 use Rattle.ft_engine.specs.AtOnce.{CameAtOnce}
 use Rattle.ft_engine.specs.Calling.{IsBetween}
 use Rattle.ft_engine.specs.MadeCalls.{IsCallFor}

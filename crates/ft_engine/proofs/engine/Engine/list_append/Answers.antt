@@ -19,7 +19,7 @@ pub end_at_once-requires : goal.end_at_once-requires
 end_at_once-requires g c =
     let a = c.args in
     let free = c.is_free.ensures c.if-not-is_free.false in
-    (a.caller.now, locked_came a.self.now (call.List a.l (list.Append a.value)) a.caller.now c.try_append-step.new.pass c.try_append-step.result c.requires.caller c.requires.may free.0 free.1 (record { containers = tt; no_cursor = refl }) refl c.try_append-step.ensures)
+    record { came = (a.caller.now, locked_came a.self.now (call.List a.l (list.Append a.value)) a.caller.now c.try_append-step.new.pass c.try_append-step.result c.requires.caller c.requires.may free.0 free.1 (record { containers = tt; no_cursor = refl }) refl c.try_append-step.ensures) }
 
 pub returns : goal.returns
 returns g c =

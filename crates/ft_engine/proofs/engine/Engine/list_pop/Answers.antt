@@ -19,7 +19,7 @@ pub end_at_once-requires : goal.end_at_once-requires
 end_at_once-requires g c =
     let a = c.args in
     let free = c.is_free.ensures c.if-not-is_free.false in
-    (a.caller.now, locked_came a.self.now (call.List a.l (list.Pop a.index)) a.caller.now c.try_any_list-step.new.pass c.try_any_list-step.result c.requires.caller c.requires.may free.0 free.1 (record { containers = tt; no_cursor = refl }) refl c.try_any_list-step.ensures)
+    record { came = (a.caller.now, locked_came a.self.now (call.List a.l (list.Pop a.index)) a.caller.now c.try_any_list-step.new.pass c.try_any_list-step.result c.requires.caller c.requires.may free.0 free.1 (record { containers = tt; no_cursor = refl }) refl c.try_any_list-step.ensures) }
 
 pub returns : goal.returns
 returns g c =

@@ -1,4 +1,9 @@
-use Rattle.std.proofs.Common.{refl}
+use Rattle.std.proofs.Common.{ℤ, refl, rules, sym, subst}
+use mir.Syntax.{w64}
+use mir.Val.{SFits}
+use Rattle.std.proofs.Math.Facts.{to_z-of_z}
+use Rattle.ft_engine.specs.Attempts.{MayAttempt}
+use Rattle.ft_engine.specs.MadeCalls.{IsCallFor}
 use Rattle.ft_model.specs.declared.call.Call.TheVariants as call
 use Rattle.ft_model.specs.declared.call.ListCall.TheVariants as list
 use Rattle.ft_section.specs.declared.answers.Objects.TheVariants.{One}
@@ -19,11 +24,17 @@ pub end_at_once-requires : goal.end_at_once-requires
 end_at_once-requires g c =
     let a = c.args in
     let free = c.is_free.ensures c.if-not-is_free.false in
-    (a.caller.now, locked_came a.self.now (call.List a.l (list.Set a.item.0 a.item.1)) a.caller.now c.try_any_list-step.new.pass c.try_any_list-step.result c.requires.caller c.requires.may free.0 free.1 (record { containers = tt; no_cursor = refl }) refl c.try_any_list-step.ensures)
+    let fits_index : SFits w64 a.item.0 = search rules in
+    let same_index = to_z-of_z {w = w64} {z = a.item.0} fits_index in
+    let may = subst (λ (i : ℤ). MayAttempt a.self.now a.caller.now (call.List a.l (list.Set i a.item.1))) (sym same_index) c.requires.may in
+    record { came = (a.caller.now, locked_came a.self.now _ a.caller.now c.try_any_list-step.new.pass c.try_any_list-step.result c.requires.caller may free.0 free.1 (record { containers = tt; no_cursor = refl }) refl c.try_any_list-step.ensures) }
 
 pub returns : goal.returns
 returns g c =
     let a = c.args in
     let free = c.is_free.ensures c.if-not-is_free.false in
-    c.end_at_once.ensures a.caller.now
-    (locked_came a.self.now (call.List a.l (list.Set a.item.0 a.item.1)) a.caller.now c.try_any_list-step.new.pass c.try_any_list-step.result c.requires.caller c.requires.may free.0 free.1 (record { containers = tt; no_cursor = refl }) refl c.try_any_list-step.ensures)
+    let fits_index : SFits w64 a.item.0 = search rules in
+    let same_index = to_z-of_z {w = w64} {z = a.item.0} fits_index in
+    let may = subst (λ (i : ℤ). MayAttempt a.self.now a.caller.now (call.List a.l (list.Set i a.item.1))) (sym same_index) c.requires.may in
+    subst (λ (i : ℤ). IsCallFor a.self.now (call.List a.l (list.Set i a.item.1)) c.end_at_once.result a.caller.now c.end_at_once.new.caller) same_index
+    (c.end_at_once.ensures a.caller.now (locked_came a.self.now _ a.caller.now c.try_any_list-step.new.pass c.try_any_list-step.result c.requires.caller may free.0 free.1 (record { containers = tt; no_cursor = refl }) refl c.try_any_list-step.ensures))

@@ -1,4 +1,4 @@
-use Rattle.std.proofs.Common.{◌<◌, ◌∙◌, sym, arith, subst, true≢false}
+use Rattle.std.proofs.Common.{◌∙◌, sym, arith, subst, true≢false}
 use Rattle.ft_engine.specs.MadeCalls.{IsLookFor}
 use Rattle.ft_engine.proofs.Keeping.{no_answer_idle}
 use Rattle.ft_engine.proofs.MadeCalls.{look_for, some_left}

@@ -22,7 +22,7 @@ pub end_at_once-requires : goal.end_at_once-requires
 end_at_once-requires g c =
     let a = c.args in
     let free = c.is_free.ensures c.if-not-is_free.false in
-    (a.caller.now, locked_came a.self.now (call.Set a.s (set.Add a.key)) a.caller.now c.try_add-step.new.pass c.try_add-step.result c.requires.caller c.requires.may free.0 free.1 (record { containers = tt; no_cursor = refl }) refl c.try_add-step.ensures)
+    record { came = (a.caller.now, locked_came a.self.now (call.Set a.s (set.Add a.key)) a.caller.now c.try_add-step.new.pass c.try_add-step.result c.requires.caller c.requires.may free.0 free.1 (record { containers = tt; no_cursor = refl }) refl c.try_add-step.ensures) }
 
 pub returns : goal.returns
 returns g c =

@@ -1,4 +1,4 @@
-use Rattle.std.proofs.Common.{sym, subst, refl}
+use Rattle.std.proofs.Common.{subst}
 use Rattle.ft_engine.specs.declared.calling.Called.{Called}
 use Rattle.ft_engine.specs.MadeCalls.{IsCallFor}
 use Rattle.ft_bench.proofs.CallerLemmas.{abandoned_ready, called_ready}

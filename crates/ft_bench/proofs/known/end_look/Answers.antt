@@ -1,7 +1,5 @@
-use Rattle.std.proofs.Common.{sym, subst, refl}
-use Rattle.ft_model.specs.declared.call.Call.{Call}
+use Rattle.std.proofs.Common.{subst, refl}
 use Rattle.ft_section.specs.declared.answers.Look.{Look}
-use Rattle.ft_engine.specs.declared.caller.Caller.{Caller}
 use Rattle.ft_engine.specs.MadeCalls.{IsLookFor}
 use Rattle.ft_bench.proofs.CallerLemmas.{abandoned_ready, looked_ready}
 use Rattle.ft_bench.proofs.known.end_look.Goals as goal

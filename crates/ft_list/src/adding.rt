@@ -33,7 +33,7 @@ use ft_section::{Object, Stamp};
 use ft_table_calls::{Added, answer_no_table, answer_over, retire_old};
 
 /// The class of the table that a list takes for that many items, which has this one or none.
-fn class_wanted(old: Option<Table>, count: u64) -> Option<u32>
+pub(crate) fn class_wanted(old: Option<Table>, count: u64) -> Option<u32>
     requires table { (t : Table) → old ≡ Some t → IsClass t.class }
     ensures class { result ≡ list_takes (list_use_of old) count }
     ensures range { IfSome result (λ class. IsClass class) }

@@ -1,6 +1,5 @@
-use Rattle.std.proofs.Common.{◌≡◌, ◌≢◌, ◌<◌, ℕ, ℤ, true, false, true≢false, List, [], ◌∷◌, length, Option, Some, None, refl, sym, ap, ◌∙◌, subst, arith}
-use Rattle.std.specs.Prelude.{◌&&◌, is_some, not, slice_set, if◌then◌else◌}
-use Rattle.std.specs.Option.{unwrap_or}
+use Rattle.std.proofs.Common.{◌≡◌, ◌<◌, ℕ, ℤ, true, true≢false, length, Some, None, refl, sym, ap, ◌∙◌, subst, arith}
+use Rattle.std.specs.Prelude.{is_some, slice_set}
 use mir.Syntax.{w64}
 use mir.Val.{to_z, of_z}
 use Rattle.std.proofs.Math.Facts.{to_z-of_z}
@@ -8,7 +7,6 @@ use Rattle.ft_model.specs.declared.call.Call.{Call}
 use Rattle.ft_model.specs.declared.call.Call.TheVariants as call
 use Rattle.ft_model.specs.declared.call.ListCall.TheVariants as list
 use Rattle.ft_model.specs.declared.content.Content.TheVariants as content
-use Rattle.ft_model.specs.declared.data.Value.{Value}
 use Rattle.ft_model.specs.declared.reply.Reply.TheVariants as reply
 use Rattle.ft_model.specs.declared.reply.Raise.TheVariants as raise
 use Rattle.ft_model.specs.Lists.{index_in}
@@ -18,7 +16,7 @@ use Rattle.ft_trace.specs.declared.View.{View}
 use Rattle.ft_trace.specs.Addresses.{container_count}
 use Rattle.ft_trace.specs.Boxes.{IsDoneWithBoxes}
 use Rattle.ft_trace.specs.ContainerStates.{changes, kind_in}
-use Rattle.ft_trace.specs.Holds.{held_unboxed, known_state}
+use Rattle.ft_trace.specs.Holds.{known_state}
 use Rattle.ft_bank.specs.Passes.{shape_of, view}
 use Rattle.ft_bank.specs.Whole.{OnlyBoxed, OnlyLoaded}
 use Rattle.ft_bank.proofs.KnownAfterWrites.{boxed_then, loaded_boxed, loaded_by, loaded_then}
@@ -30,7 +28,7 @@ use Rattle.ft_list.proofs.HeldWrites.{begins_on, boxed_reads, done_answered, don
 use Rattle.ft_list.proofs.ListCallFacts.{set_changes}
 use Rattle.ft_list.proofs.ListMidst.{reply_changes, reply_raises}
 use Rattle.ft_list.proofs.Lists.{list_content, list_counts}
-use Rattle.ft_list.proofs.Raising.{and_false, raised, set_raises}
+use Rattle.ft_list.proofs.Raising.{set_raises}
 use Rattle.ft_list.proofs.boxing.set_held.Goals as goal
 use Rattle.ft_list.proofs.boxing.set_held.Goals.{After-read_block-count, After-table_in-table, After-release}
 

@@ -41,4 +41,3 @@ taken_unnamed v o b possible low mine idle taken =
           let is : w.1 ≡ v = some-injective w.1 v (sym w.2 ∙ (ap (get_elem? (run k es).views) same ∙ x.2.1)) in
           absurd (off (sym (idle o) ∙ subst (λ (z : View). is_writing o z.log ≡ true) is w.3))
     ]))
-

@@ -22,6 +22,7 @@ ghost use Rattle.ft_bank.specs.Whole.{OnlyLoaded, Wrote};
 ghost use Rattle.ft_table_calls.specs.Adding.{OnlyFilled};
 ghost use Rattle.ft_list.specs.ListItemWrites.{WritesList, IsPutting, known_items, stored_item};
 ghost use Rattle.ft_list.specs.ListWrites.{Grows};
+ghost use Rattle.ft_list.specs.Internal.Carrying.{HoldsSpare};
 ghost use Rattle.ft_list.specs.Internal.NewListTables.{CopiesItem, HasRooted, IsCopied, KnowsList, MayGrowList, with_new_item};
 ghost use Rattle.ft_list.specs.Internal.Additions.{count_in, with_added, IsAddition};
 
@@ -61,14 +62,7 @@ fn old_value(bank: &Bank, pass: &mut Pass, o: u32, old: Option<Table>, place: u6
 }
 
 /// Has an item have a value with this kind and this payload in a table that is fresh in hand, with version 0.
-fn fill_item(
-    bank: &Bank,
-    pass: &mut Pass,
-    table: Table,
-    start: u64,
-    place: u64,
-    value: (u64, u64),
-)
+fn fill_item(bank: &Bank, pass: &mut Pass, table: Table, start: u64, place: u64, value: (u64, u64))
     requires pass { IsPassOf bank.now pass.old }
     requires table { IsTableIn (shape_of bank.now) table }
     requires start { IsPlaceOf (shape_of bank.now) table start }
@@ -164,6 +158,7 @@ pub(crate) fn add_in(
     requires may { MayGrowList (shape_of bank.now) o old table (view pass.old) }
     requires other { root_in (held_unboxed o (view pass.old)) ≢ suc (table_id table) }
     requires wider { (t : Table) → old ≡ Some t → slots (class_of (table_id t)) ≤ slots (class_of (table_id table)) }
+    requires spare { HoldsSpare (shape_of bank.now) (view pass.old) }
     requires untaken { (b : ℕ) → place_use b (view pass.old).log ≢ use_taken }
     requires addition { IsAddition (shape_of bank.now) count addition (view pass.old) }
     requires count { count ≡ length (known_items o (view pass.old)) }

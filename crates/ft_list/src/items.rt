@@ -191,8 +191,7 @@ pub(crate) fn carry_item(
         PutsItem place seen (held_unboxed o (view pass.old)) (held_unboxed o (view pass.new)) }
     ensures own { HasReferenceFor (view pass.new) result.0 result.1 }
     ensures spare { HoldsFewBut (shape_of bank.now) result.0 result.1 (view pass.new) }
-    ensures found {
-        (kind_read (view pass.new) result.0 result.1 ≡ item_field (held_unboxed o (view pass.old)).table place 1)
+    ensures found { (kind_read (view pass.new) result.0 result.1 ≡ item_field (held_unboxed o (view pass.old)).table place 1)
         × (payload_read (view pass.new) result.0 result.1 ≡ item_field (held_unboxed o (view pass.old)).table place 2) }
     ensures references { (b : ℕ) →
         references_held (shape_of bank.now) b (view pass.new).log + names_box b value.0 value.1

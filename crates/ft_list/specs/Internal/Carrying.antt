@@ -8,3 +8,7 @@ use Rattle.ft_trace.specs.Boxes.{names_box, references_held}
 -- that it may hold one more.
 abbrev pub HoldsFewBut : Shape → ℕ → ℕ → View → Type 0
 HoldsFewBut k kind payload v = (b : ℕ) → references_held k b v.log + 1 < 2 ^ 31 + names_box b kind payload
+
+-- it holds so few for each box that it may hold one more
+abbrev pub HoldsSpare : Shape → View → Type 0
+HoldsSpare k v = (b : ℕ) → references_held k b v.log + 1 < 2 ^ 31

@@ -14,6 +14,7 @@ use Rattle.ft_bank.specs.Passes.{shape_of, view}
 use Rattle.ft_bank.specs.TableNames.{table_id}
 use Rattle.ft_bank.specs.Whole.{OnlyWritten}
 use Rattle.ft_bank.proofs.KnownAfterWrites.{put_by, written_then, work_knows, put_written}
+use Rattle.ft_search.proofs.Overs.{held_same}
 use Rattle.ft_list.specs.ListWrites.{Grows}
 use Rattle.ft_list.specs.ListItemWrites.{IsPutting, known_items, stored_item}
 use Rattle.ft_list.specs.Internal.Moving.{IsMoving}
@@ -85,6 +86,14 @@ put_added-requires-clause-before c =
     let first = first_in a.addition a.count in
     let past = a.count + count_in a.addition in
     subst (λ (l : List Value). IsPutting (class_of (table_id a.table)) l first past (stored_item l) (held_unboxed a.o (view c.begin_in.new.pass)).table) (sym items) (c.begin_in.ensures.putting first past)
+
+pub put_added-requires-clause-spare : goal.put_added-requires-clause-spare
+put_added-requires-clause-spare c b =
+    let k = shape_of c.args.bank.now in
+    let first = held_same k (view c.args.pass.now) (view c.fill.new.pass) c.requires.pass.1 c.fill.ensures.pass.1 c.fill.ensures.only.references b in
+    let second = held_same k (view c.fill.new.pass) (view c.begin_in.new.pass) c.fill.ensures.pass.1 c.begin_in.ensures.pass.1 c.begin_in.ensures.references b in
+    let s = c.requires.spare b in
+    omega (arith, first, second, s)
 
 pub overflow_add-past : goal.overflow_add-past
 overflow_add-past c =

@@ -18,13 +18,13 @@ ghost use Rattle.ft_bank.specs.TableNames.{table_id, IsPlaceOf};
 ghost use Rattle.ft_bank.specs.SameBoxes.{SameReferences};
 ghost use Rattle.ft_bank.specs.Whole.{OnlyLoaded, OnlyPut, OnlyWritten, EndsWrite};
 ghost use Rattle.ft_search.specs.Boxed.{KeepsOwn};
-ghost use Rattle.ft_list.specs.Internal.Carrying.{HoldsFewBut};
+ghost use Rattle.ft_list.specs.Internal.Carrying.{HoldsFewBut, KeepsItemValues};
 ghost use Rattle.ft_list.specs.ListItemWrites.{WritesList, PutsItem, ClosesItem, IsChanging, MayFinishItems, ReadsAs, known_items, stored_words, with_word};
 
 use crate::values::held_value;
 use ft_bank::{Bank, Pass, Table};
 use ft_layout::{
-    Stored, item_at, item_of, item_word, stored_kind_of, stored_payload_of, versions_change_nothing,
+    Stored, item_at, item_word, stored_kind_of, stored_payload_of, versions_change_nothing,
 };
 use ft_model::{Call, Reply};
 use ft_search::{exchange, put_over, read_value, release};
@@ -87,33 +87,6 @@ fn open_item(bank: &Bank, pass: &mut Pass, o: u32, table: Table, start: u64, pla
             version + 1,
         );
     }
-}
-
-/// What an item stores of a list that the pass writes.
-pub(crate) fn item(
-    bank: &Bank,
-    pass: &mut Pass,
-    o: u32,
-    table: Table,
-    start: u64,
-    place: u64,
-) -> Stored
-    requires pass { IsPassOf bank.now pass.old }
-    requires list { WritesList (shape_of bank.now) o table (view pass.old) }
-    requires start { IsPlaceOf (shape_of bank.now) table start }
-    requires place { place < slots (class_of (table_id table)) }
-    ensures pass { IsPassOf bank.now pass.new }
-    ensures stack { stack_of pass.new ≡ stack_of pass.old }
-    ensures list { WritesList (shape_of bank.now) o table (view pass.new) }
-    ensures only { OnlyLoaded (view pass.old) (view pass.new) }
-    ensures held { held_unboxed o (view pass.new) ≡ held_unboxed o (view pass.old) }
-    ensures stored { (stored : Stored) →
-        IsStored (item_field (held_unboxed o (view pass.old)).table place 1) (item_field (held_unboxed o (view pass.old)).table place 2) stored →
-        result ≡ stored }
-    ensures fits { FitsStored result }
-{
-    let (kind, payload) = held_value(bank, pass, o, table, start, place);
-    item_of(&[0, kind, payload, 0]).unwrap_or(Stored::Empty)
 }
 
 /// Has an item store this, before the commit: a value in place, or in a box for which the pass holds a reference and
@@ -243,6 +216,7 @@ fn close_item(bank: &Bank, pass: &mut Pass, o: u32, table: Table, start: u64, pl
     ensures only { OnlyPut o (view pass.old) (view pass.new) }
     ensures references { SameReferences (view pass.old) (view pass.new) }
     ensures item { ClosesItem place (held_unboxed o (view pass.old)) (held_unboxed o (view pass.new)) }
+    ensures values { KeepsItemValues o (view pass.old) (view pass.new) }
 {
     let version = read_version(bank, pass, o, table, start, place);
     if version % 2 == 1 {
@@ -271,6 +245,7 @@ fn close_items(bank: &Bank, pass: &mut Pass, o: u32, table: Table, first: u64, p
     ensures only { OnlyPut o (view pass.old) (view pass.new) }
     ensures references { SameReferences (view pass.old) (view pass.new) }
     ensures block { (held_unboxed o (view pass.new)).block ≡ (held_unboxed o (view pass.old)).block }
+    ensures values { KeepsItemValues o (view pass.old) (view pass.new) }
     ensures closed { IsChanging (class_of (table_id table)) (known_items o (view pass.old))
         (known_items o (view pass.old)) past past (held_unboxed o (view pass.new)).table }
 {
@@ -301,6 +276,7 @@ pub(crate) fn finish(
     ensures stack { stack_of pass.new ≡ stack_of pass.old }
     ensures ends { EndsWrite called.now said.now result (view pass.old) (view pass.new) }
     ensures references { SameReferences (view pass.old) (view pass.new) }
+    ensures values { KeepsItemValues o (view pass.old) (view pass.new) }
     ensures stored { (b : ℕ) → place_use b (view pass.new).log ≢ use_taken }
 {
     let number = bank.commit(pass, called, said);

@@ -15,8 +15,8 @@ ghost use Rattle.ft_trace.specs.Acts.{has_committed};
 ghost use Rattle.ft_trace.specs.Addresses.{class_of, slots};
 ghost use Rattle.ft_trace.specs.Boxes.{names_box, place_use, references_held, use_taken};
 ghost use Rattle.ft_trace.specs.BoxWords.{box_kind};
-ghost use Rattle.ft_trace.specs.Holds.{held_unboxed, known_state};
-ghost use Rattle.ft_trace.specs.Pictures.{root_in};
+ghost use Rattle.ft_trace.specs.Holds.{held_words, held_unboxed, known_state};
+ghost use Rattle.ft_trace.specs.Pictures.{item_field, root_in};
 ghost use Rattle.ft_bank.specs.BoxSteps.{kind_read, payload_read, HasReferenceFor};
 ghost use Rattle.ft_bank.specs.Passes.{shape_of, view, IsPassOf, Did};
 ghost use Rattle.ft_bank.specs.PassSections.{stack_of};
@@ -93,6 +93,9 @@ pub(crate) fn set_item(
     ensures references { (b : ℕ) → references_held (shape_of bank.now) b (view pass.new).log
         + names_box b (stored_kind stored) (stored_payload stored)
         ≡ references_held (shape_of bank.now) b (view pass.old).log }
+    ensures boxed { stored_kind stored ≡ box_kind →
+        (item_field (held_words o (view pass.new)).table place 1 ≡ stored_kind stored)
+        × (item_field (held_words o (view pass.new)).table place 2 ≡ stored_payload stored) }
     ensures stored { (b : ℕ) → place_use b (view pass.new).log ≢ use_taken }
 {
     let _ = value;

@@ -1,4 +1,4 @@
-use Rattle.std.proofs.Common.{◌≡◌, ◌<◌, true≢false, List, length, sym, ap, ◌∙◌, subst, arith}
+use Rattle.std.proofs.Common.{refl, ◌≡◌, ◌<◌, true≢false, List, length, sym, ap, ◌∙◌, subst, arith}
 use Rattle.std.specs.Prelude.{slice_set}
 use Rattle.ft_model.specs.declared.call.Call.{Call}
 use Rattle.ft_model.specs.declared.call.ListCall.TheVariants as list
@@ -13,6 +13,7 @@ use Rattle.ft_trace.specs.declared.View.{View}
 use Rattle.ft_trace.specs.Boxes.{IsDoneWithBoxes}
 use Rattle.ft_trace.specs.Pictures.{root_in}
 use Rattle.ft_trace.proofs.ValuePlaces.{plain_kind}
+use Rattle.ft_bank.specs.BoxSteps.{box_id}
 use Rattle.ft_bank.specs.Passes.{shape_of, view}
 use Rattle.ft_bank.specs.Whole.{OnlyBoxed}
 use Rattle.ft_bank.proofs.KnownAfterWrites.{boxed_then, loaded_boxed, loaded_held}
@@ -226,3 +227,14 @@ returns-clause-wrote c =
       root = e.root;
       boxes = done_stored k c.keep.result c.args.value u w c.read_stored-old.ensures.pass.1 (holds_kept (goal.at.returns-clause-wrote c).After-keep) may.settled e.wrote.made e.references e.stored;
     }
+
+-- ---- the box that the item names then
+
+pub returns-then-is_value-clause-names : goal.returns-then-is_value-clause-names
+returns-then-is_value-clause-names c other =
+    absurd (other (sym (old_is (goal.at.returns-then-is_value-clause-names c).After-read_stored-old) ∙ c.is_value.ensures.0 c.if-is_value.true))
+
+pub returns-clause-names : goal.returns-clause-names
+returns-clause-names c other =
+    let raw = c.set_item-2.ensures.boxed refl in
+    (raw.0, raw.1 ∙ ap box_id c.keep.ensures)

@@ -56,8 +56,8 @@ pub record MadeHeld (k : Shape) (called : Call) (said : Reply) (stamp : Stamp) (
   pub boxes : IsDoneWithBoxes k w.log
 
 -- The call was made as one whole write that left the root of the list o, whose table has room for one item more; it isn't
--- longer than the largest table holds. (profile)
-pub record AddedInPlace (o : ℕ) (called : Call) (v w : View) (what : Added) : Type 0 where
+-- longer than the largest table holds. The item after the last one names the box then. (profile)
+pub record AddedInPlace (o : ℕ) (b : Ref) (called : Call) (v w : View) (what : Added) : Type 0 where
   pub stamp : Stamp
   pub made : what ≡ added.Made stamp
   pub write : stamp.wrote ≡ true
@@ -65,13 +65,14 @@ pub record AddedInPlace (o : ℕ) (called : Call) (v w : View) (what : Added) : 
   pub root : root_in (held_words o w) ≡ root_in (held_words o v)
   pub room : list_takes (known_state o v).table (length (known_items o v) + 1) ≡ None
   pub few : nat_lt most_items (length (known_items o v) + 1) ≡ false
+  pub names : NamesBoxAt o (length (known_items o v)) b w
 
--- What a call that adds one item to the list o comes to under the lock, where the item's value stands in a box: after steps
+-- What a call that adds one item to the list o comes to under the lock, where the item's value stands in this box: after steps
 -- with boxes it was made in place, or it came to what it comes to where the value stands in none. The pass has the cursors
 -- that it had, and is done with boxes.
-pub record AddsHeld (k : Shape) (o : ℕ) (called : Call) (v w : View) (what : Added) : Type 0 where
+pub record AddsHeld (k : Shape) (o : ℕ) (b : Ref) (called : Call) (v w : View) (what : Added) : Type 0 where
   pub before : View
   pub boxed : OnlyBoxed v before
-  pub added : AddedInPlace o called before w what ⊎ AddsItems k o called 1 before w what
+  pub added : AddedInPlace o b called before w what ⊎ AddsItems k o called 1 before w what
   pub cursors : KeepsCursors v w
   pub boxes : IsDoneWithBoxes k w.log

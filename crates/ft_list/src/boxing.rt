@@ -216,6 +216,7 @@ fn append_box(
         (known_items l (view pass.old)) (insert (known_items l (view pass.old)) count value) (view pass.old) }
     ensures pass { IsPassOf bank.now pass.new }
     ensures stack { stack_of pass.new ≡ stack_of pass.old }
+    ensures names { NamesBoxAt l count (box_of held) (view pass.new) }
     ensures wrote { WroteHeld (shape_of bank.now) l called.now result (view pass.old) (view pass.new) }
 {
     let _ = value;
@@ -243,7 +244,8 @@ pub fn append_held(bank: &Bank, pass: &mut Pass, l: Object, value: Value, held: 
     requires boxed { is_boxed value ≡ true }
     ensures pass { IsPassOf bank.now pass.new }
     ensures stack { stack_of pass.new ≡ stack_of pass.old }
-    ensures added { AddsHeld (shape_of bank.now) l (call.List l (list.Append value)) (view pass.old) (view pass.new) result }
+    ensures added { AddsHeld (shape_of bank.now) l (box_of held) (call.List l (list.Append value)) (view pass.old)
+        (view pass.new) result }
 {
     let count = bank.read_block(pass, l, LENGTH);
     match roomy_table(bank, pass, l, count) {

@@ -198,3 +198,13 @@ returns-clause-wrote c =
           omega (arith, begun, put, block, done))
           c.finish.ensures.stored;
     }
+
+-- the item names the box
+pub returns-clause-names : goal.returns-clause-names
+returns-clause-names c =
+    let raw = c.put_item.ensures.boxed refl in
+    let f = c.finish.ensures.values c.args.count in
+    let block = λ (word : ℕ). ap (λ (x : ContainerWords). item_field x.table c.args.count word) c.put_block.ensures.held in (
+      f 1 (omega arith) (omega arith) ∙ (block 1 ∙ raw.0),
+      f 2 (omega arith) (omega arith) ∙ (block 2 ∙ (raw.1 ∙ ap box_id c.keep.ensures)),
+    )

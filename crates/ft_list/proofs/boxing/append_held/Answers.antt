@@ -25,6 +25,7 @@ use Rattle.ft_bank.specs.Whole.{OnlyBoxed, OnlyLoaded}
 use Rattle.ft_bank.proofs.KnownAfterWrites.{boxed_then, loaded_boxed, loaded_by, loaded_then, work_knows}
 use Rattle.ft_boxes.specs.References.{box_of}
 use Rattle.ft_search.proofs.Changing.{no_keys}
+use Rattle.ft_list.specs.HeldValues.{NamesBoxAt}
 use Rattle.ft_list.specs.ListItemWrites.{known_items}
 use Rattle.ft_list.specs.ListWrites.{Adds, Changes, MayBeginList, MayWriteList}
 use Rattle.ft_list.specs.Internal.NewListTables.{KnowsList, list_use_of}
@@ -186,6 +187,7 @@ returns-in-Some-clause-added c =
         wrote = made.wrote;
         root = made.root;
         room = (λ d. list_takes (known d).table (length (list_of (known d).content) + 1)) ∙ takes_none q;
+        names = subst (λ (m : ℕ). NamesBoxAt a.l m (box_of a.held) (view c.append_box-number.new.pass)) (n ∙ sym (ap (λ (z : ContainerState). length (list_of z.content)) known)) c.append_box-number.ensures.names;
         few = ap (λ (z : ContainerState). nat_lt most_items (length (list_of z.content) + 1)) known ∙ le-ltb most_items (length (known_items a.l w) + 1) (omega (arith, few, n));
       });
       cursors = λ number. made.wrote.pass.cursors number ∙ boxed.work.pass.cursors number;

@@ -165,7 +165,7 @@ pub fn set_held(
             )
         }
         None => {
-            release(bank, pass, held);
+            release(bank, pass, held); // no item is to name the box
             let said = Reply::Raised(Raise::NoIndex);
             let stamp = raise(bank, pass, l, &called, &said);
             (said, stamp)

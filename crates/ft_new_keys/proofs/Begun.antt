@@ -7,7 +7,7 @@ use Rattle.ft_model.specs.declared.script.Kind.{Kind}
 use Rattle.ft_trace.specs.declared.Shape.{Shape}
 use Rattle.ft_trace.specs.declared.View.{View}
 use Rattle.ft_trace.specs.Acts.{has_lock, is_writing, mem, stage, view_after}
-use Rattle.ft_trace.specs.Addresses.{container_count, class_of, IsTableName}
+use Rattle.ft_trace.specs.Addresses.{container_count, IsTableName}
 use Rattle.ft_trace.specs.Boxes.{named_in_root, references_held, IsSettled}
 use Rattle.ft_trace.specs.ContainerStates.{kind_in}
 use Rattle.ft_trace.specs.Holds.{held_words, held_unboxed, in_hand}
@@ -32,7 +32,7 @@ use Rattle.ft_new_keys.specs.Moving.{HasMoved, HoldsGone, gone_in_old, gone_in_r
 use Rattle.ft_new_keys.proofs.GoneEntries.{split_names}
 use Rattle.ft_new_keys.proofs.Keyed.{fresh_other}
 
-module _ (k : Shape) (o : ℕ) (old : Option Table) (table : Table) (v s r : View) (f : ℕ) (shape : v.shape ≡ k) (possible : ∥ IsReachable v ∥₁) (may : MayGrowKeyed k o old table v) (has : HasMoved k o table v) (started : s ≡ view_after (StartWrite o f) v)
+module _ (k : Shape) (o : ℕ) (old : Option Table) (table : Table) (v s r : View) (f : ℕ) (shape : v.shape ≡ k) (possible : ∥ IsReachable v ∥₁) (may : MayGrowKeyed k o old table v) (carried : HasMoved k o table v) (started : s ≡ view_after (StartWrite o f) v)
     (put : r ≡ view_after (PutRoot o (suc (table_id table)) (root_in (held_words o s))) s) (keeps : KeepsUnwritten s r) (moves : MovesReferences o s r) (held : held_words o r ≡ record { block = slice_set (held_words o s).block 0 (suc (table_id table)); table = in_hand (table_id table) s }) where
   abbrev begun : View
   begun = view_after (StartWrite o f) v
@@ -71,7 +71,7 @@ module _ (k : Shape) (o : ℕ) (old : Option Table) (table : Table) (v s r : Vie
 
   -- the words name the boxes of the entries that are there
   named_r : (b : ℕ) → named_in_words b (kind_in r.shape.starts o) (held_words o r) ≡ live_in_root b kd (root_in (held_words o v)) (held_words o v).table
-  named_r b = (λ d. named_in_root b (kind_in ((shape_r ∙ shape) d).starts o) (root_r d) (held_begun d).table) ∙ has.names b
+  named_r b = (λ d. named_in_root b (kind_in ((shape_r ∙ shape) d).starts o) (root_r d) (held_begun d).table) ∙ carried.names b
 
   -- the references of the deleted ones came to the pass
   refs_r : (b : ℕ) → references_held k b r.log ≡ references_held k b v.log + gone b

@@ -1,10 +1,9 @@
 -- The boxes that a table names are those of entries that are there and those of deleted ones.
-use Rattle.std.proofs.Common.{◌≡◌, ◌≢◌, ℕ, zero, suc, ◌+◌, ◌<◌, ◌≤◌, Bool, true, false, true≢false, cond, List, refl, sym, ap, ◌∙◌, arith}
+use Rattle.std.proofs.Common.{◌≡◌, ℕ, zero, suc, ◌+◌, ◌<◌, ◌≤◌, Bool, true, false, cond, List, refl, ap, ◌∙◌, arith}
 use Rattle.std.specs.Prelude.{nat_lt, slice_index}
-use mathlib.Core.Logic.{dite}
 use Rattle.ft_model.specs.declared.script.Kind.{Kind}
 use Rattle.ft_trace.specs.Addresses.{class_of, slots}
-use Rattle.ft_trace.specs.Boxes.{value_at, names_box, names_box_at, named_in_root}
+use Rattle.ft_trace.specs.Boxes.{value_at, names_box_at, named_in_root}
 use Rattle.ft_trace.specs.Kinds.{rows}
 use Rattle.ft_trace.specs.Pictures.{entry_field}
 use Rattle.ft_trace.specs.Sums.{sum_to}

@@ -1,5 +1,5 @@
 -- A fresh table that has got the entries of the table of a dict or a set, with their boxes.
-use Rattle.std.proofs.Common.{◌≡◌, ◌≢◌, ℕ, zero, suc, ◌+◌, ◌/◌, ◌%◌, ◌<◌, ◌≤◌, List, [], ◌∷◌, length, filter, Option, Some, None, refl, sym, ap, ◌∙◌, subst, arith}
+use Rattle.std.proofs.Common.{◌≡◌, ◌≢◌, ℕ, suc, ◌+◌, ◌/◌, ◌%◌, ◌<◌, ◌≤◌, List, [], ◌∷◌, length, filter, Option, Some, refl, sym, ap, ◌∙◌, subst, arith}
 use Rattle.std.specs.Prelude.{All, slice_index}
 use Rattle.std.proofs.lemmas.List.Elements.{filter_passes}
 use Rattle.ft_model.specs.declared.content.Content.{Content}
@@ -13,8 +13,7 @@ use Rattle.ft_layout.specs.Containers.{class_mask, IsBlock, StandsAs}
 use Rattle.ft_layout.specs.Tables.{UsedEntry, is_live}
 use Rattle.ft_keys.specs.declared.walk.Way.{Way}
 use Rattle.ft_keys.specs.declared.walk.Way.TheVariants as way
-use Rattle.ft_keys.specs.declared.words.Access.{Access}
-use Rattle.ft_keys.specs.Accesses.{FitsOld, after}
+use Rattle.ft_keys.specs.Accesses.{after}
 use Rattle.ft_keys.specs.Puts.{PutBelow}
 use Rattle.ft_keys.specs.TableChanges.{Moves, Rebuilds}
 use Rattle.ft_keys.specs.Ways.{room, walk_slots, IsTableOf}
@@ -22,7 +21,7 @@ use Rattle.ft_trace.specs.declared.Shape.{Shape}
 use Rattle.ft_trace.specs.declared.View.{View}
 use Rattle.ft_trace.specs.Acts.{mem}
 use Rattle.ft_trace.specs.Addresses.{class_of, slots, size}
-use Rattle.ft_trace.specs.Boxes.{value_at, names_box_at, named_in_root, known_box_word}
+use Rattle.ft_trace.specs.Boxes.{value_at, names_box_at, known_box_word}
 use Rattle.ft_trace.specs.ContainerStates.{kind_in}
 use Rattle.ft_trace.specs.Holds.{held_words, held_unboxed, known_state, in_hand, hand_unboxed}
 use Rattle.ft_trace.specs.Kinds.{rows, IsKeyed}
@@ -37,7 +36,6 @@ use Rattle.ft_trace.proofs.ReadTables.{read_entry}
 use Rattle.ft_bank.specs.declared.table.Table.{Table}
 use Rattle.ft_bank.specs.Passes.{view}
 use Rattle.ft_bank.specs.TableNames.{table_id}
-use Rattle.ft_bank.proofs.TableAddresses.{class_is}
 use Rattle.ft_search.specs.Rounds.{kind_by}
 use Rattle.ft_search.proofs.Changing.{kind_is, no_keys}
 use Rattle.ft_search.proofs.Puts.{keyed_value, table_class}
@@ -51,7 +49,7 @@ use Rattle.ft_new_keys.proofs.FilledTables.{BlankHolds, LivePairs, LiveElements,
 use Rattle.ft_new_keys.proofs.MovedTables.{NamesBoxes, all_sum, kind_here, live_sum, named_live, payload_here, raw_is, raws, raws_read, read_is}
 use Rattle.ft_new_keys.proofs.NamedValues.{named_fits, named_has_value}
 use Rattle.ft_new_keys.proofs.Placed.{use_with}
-use Rattle.ft_new_keys.proofs.RawTables.{AllRead, raw_long, read_live, read_long}
+use Rattle.ft_new_keys.proofs.RawTables.{AllRead, read_live, read_long}
 
 -- the slots that are tried lie in the index
 pub within : (by : Way) (class hash : ℕ) → All (λ s. s ≤ class_mask class) (walk_slots by hash (class_mask class))

@@ -13,13 +13,11 @@ use Rattle.ft_trace.specs.declared.View.{View}
 use Rattle.ft_trace.specs.Addresses.{class_of, container_count, maker_of, place_in}
 use Rattle.ft_trace.specs.Acts.{has_lock, mem}
 use Rattle.ft_trace.specs.Boxes.{value_at, names_box_at, named_in_root, named_in_container, known_box_word}
-use Rattle.ft_trace.specs.BoxTraces.{references}
 use Rattle.ft_trace.specs.BoxWords.{IsBoxedValue}
 use Rattle.ft_trace.specs.ContainerStates.{kind_in}
 use Rattle.ft_trace.specs.Holds.{held_words}
 use Rattle.ft_trace.specs.Kinds.{rows}
 use Rattle.ft_trace.specs.Pictures.{root_in}
-use Rattle.ft_trace.specs.Sums.{sum_to}
 use Rattle.ft_trace.specs.Traces.{run, IsReachable}
 use Rattle.ft_trace.proofs.BoxedValues.{boxes_have_values}
 use Rattle.ft_trace.proofs.BoxKnown.{box_known}

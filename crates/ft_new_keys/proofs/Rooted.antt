@@ -1,5 +1,5 @@
 -- A dict or a set that gets another table, filled with what it has: that the root may be put, and what a new key finds there.
-use Rattle.std.proofs.Common.{◌≡◌, ◌≢◌, ℕ, suc, ◌^◌, ◌<◌, true, true≢false, List, ◌∷◌, filter, Option, Some, None, sym, ap, ◌∙◌, subst, arith, length-set, get_or-set_same, get_or-set_other}
+use Rattle.std.proofs.Common.{◌≡◌, ◌≢◌, ℕ, suc, ◌^◌, ◌<◌, ◌≤◌, true, true≢false, List, ◌∷◌, filter, Option, Some, None, sym, ap, ◌∙◌, subst, arith, length-set, get_or-set_same, get_or-set_other}
 use Rattle.std.specs.Prelude.{All, is_some, slice_index, slice_set}
 use Rattle.std.specs.Option.{unwrap_or}
 use Rattle.ft_model.specs.declared.content.Content.{Content}
@@ -21,7 +21,7 @@ use Rattle.ft_trace.specs.declared.Shape.{Shape}
 use Rattle.ft_trace.specs.declared.View.{View}
 use Rattle.ft_trace.specs.Acts.{is_writing, mem, view_after, stage}
 use Rattle.ft_trace.specs.Addresses.{class_of, slots}
-use Rattle.ft_trace.specs.Boxes.{named_in_root}
+use Rattle.ft_trace.specs.Boxes.{named_in_root, known_box_word}
 use Rattle.ft_trace.specs.Holds.{held_words, held_unboxed, known_state, in_hand, hand_unboxed}
 use Rattle.ft_trace.specs.Kinds.{rows, version_at, SoundAs, IsKeyed}
 use Rattle.ft_trace.specs.OddVersions.{Shut}
@@ -33,6 +33,7 @@ use Rattle.ft_trace.proofs.Cases.{hit}
 use Rattle.ft_trace.proofs.DictWrites as dict
 use Rattle.ft_trace.proofs.DictWrites.{FirstEntriesArePairs}
 use Rattle.ft_trace.proofs.Pieces.{table_long}
+use Rattle.ft_trace.proofs.ReadTables.{rows_long}
 use Rattle.ft_trace.proofs.SetKnown as set
 use Rattle.ft_trace.proofs.SetKnown.{FirstEntriesAreElements}
 use Rattle.ft_bank.specs.declared.table.Table.{Table}
@@ -199,7 +200,7 @@ module _ (first_pair : FirstEntriesArePairs) (first_element : FirstEntriesAreEle
       let some = slots_of_class c in
       let slot_low = free.0 in
       let last : class_mask table.class ≡ class_mask c = ap class_mask (sym same) in
-      let long = table_long v.shape (table_id table) (mem v.shape v.log) in
+      let long = rows_long (λ b i. known_box_word v.shape b i v.log) (kind_in v.shape.starts o) c (rows (kind_in v.shape.starts o) c) (in_hand (table_id table) v) ∙ table_long v.shape (table_id table) (mem v.shape v.log) in
       record {
         is_class = is_class;
         keyed = keyed_d;

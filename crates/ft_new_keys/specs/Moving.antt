@@ -2,7 +2,7 @@
 -- stands in a box has its box there as well.
 use Rattle.std.specs.Prelude.{◌≡◌, ℕ, zero, suc, ◌<◌, ◌≤◌, nat_lt, if◌then◌else◌, List, [], ◌∷◌, Option, Some}
 use Rattle.ft_model.specs.declared.script.Kind.{Kind}
-use Rattle.ft_model.specs.Worlds.{kind_of, length_of, serial_of}
+use Rattle.ft_model.specs.Worlds.{length_of, serial_of}
 use Rattle.ft_layout.specs.Containers.{IsBlock, StandsAs}
 use Rattle.ft_trace.specs.declared.Shape.{Shape}
 use Rattle.ft_trace.specs.declared.View.{View}

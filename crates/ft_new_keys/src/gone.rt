@@ -98,6 +98,7 @@ fn drop_gone_in(bank: &Bank, pass: &mut Pass, o: u32, way: Way, table: Table)
     let start = bank.cell_of(table);
     let mask = mask_of(table.class);
     for row in 0..room_of(way, mask) {
-        drop_entry(bank, pass, table, start, mask + 1 + 8 * row);
+        let entry = mask + 1 + 8 * row;
+        drop_entry(bank, pass, table, start, entry);
     }
 }

@@ -1,10 +1,8 @@
 use Rattle.std.proofs.Common.{◌≡◌, ℕ, ◌≤◌, ◌∷◌, Some, refl, sym, ap, ◌∙◌, subst, rules}
 use Rattle.ft_layout.specs.Containers.{class_mask}
 use Rattle.ft_model.specs.Worlds.{length_of}
-use Rattle.ft_trace.specs.declared.Shape.{Shape}
 use Rattle.ft_trace.specs.Addresses.{class_of}
 use Rattle.ft_trace.specs.ContainerStates.{ContainerState, kind_in}
-use Rattle.ft_trace.specs.Holds.{known_state}
 use Rattle.ft_trace.specs.Kinds.{rows}
 use Rattle.ft_trace.specs.Pictures.{ContainerWords}
 use Rattle.ft_bank.specs.declared.pass.Pass.{Pass}

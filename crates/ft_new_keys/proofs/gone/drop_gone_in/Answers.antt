@@ -4,21 +4,19 @@ use Rattle.ft_model.specs.declared.script.Kind.{Kind}
 use Rattle.ft_model.specs.Classes.{IsClass}
 use Rattle.ft_layout.specs.Containers.{class_mask}
 use Rattle.ft_keys.specs.Ways.{room}
-use Rattle.ft_trace.specs.Addresses.{class_of, places, size, slots}
+use Rattle.ft_trace.specs.Addresses.{class_of, size, slots}
 use Rattle.ft_trace.specs.Boxes.{value_at, names_box, references_held}
 use Rattle.ft_trace.specs.ContainerStates.{kind_in}
 use Rattle.ft_trace.specs.Holds.{in_hand}
 use Rattle.ft_trace.specs.Kinds.{rows, IsKeyed}
 use Rattle.ft_trace.specs.Pictures.{entry_offset}
 use Rattle.ft_trace.specs.Sums.{sum_to}
-use Rattle.ft_trace.proofs.ByKind.{keyed_fit}
 use Rattle.ft_bank.specs.Passes.{shape_of, view}
 use Rattle.ft_bank.specs.TableNames.{table_id}
 use Rattle.ft_bank.proofs.BoxedSteps.{made_same}
 use Rattle.ft_bank.proofs.DoneBoxes.{settled_then, stays_settled_same}
 use Rattle.ft_bank.proofs.KnownAfterWrites.{boxed_then, loaded_boxed}
 use Rattle.ft_bank.proofs.TableAddresses.{class_is}
-use Rattle.ft_search.specs.Rounds.{kind_by}
 use Rattle.ft_search.proofs.Calling.{loaded_same}
 use Rattle.ft_search.proofs.Puts.{keyed_value}
 use Rattle.ft_search.proofs.WordPlaces.{slots_is, entry_in}
@@ -52,9 +50,9 @@ module _ (c : In-loop-row) where
   keyed : IsKeyed (kind_in (shape_of c.args.bank.now).starts c.args.o)
   keyed = subst IsKeyed (sym c.requires.way) (keyed_by c.args.way)
 
-  is_room : c.room_of.result ≡ rows (kind_in (shape_of c.args.bank.now).starts c.args.o) (class_of (table_id c.args.table))
+  is_room : c.room_of-row-end.result ≡ rows (kind_in (shape_of c.args.bank.now).starts c.args.o) (class_of (table_id c.args.table))
   is_room =
-      c.room_of.ensures
+      c.room_of-row-end.ensures
       ∙ (ap (room c.args.way) (c.mask_of-mask.ensures ∙ ap class_mask (sym (class_is c.args.table c.requires.table.2)))
       ∙ (room_of_way c.args.way (class_of (table_id c.args.table)) (subst (λ (z : ℕ). IsClass z) (sym (class_is c.args.table c.requires.table.2)) c.requires.table.0)
       ∙ ap (λ (z : Kind). rows z (class_of (table_id c.args.table))) (sym c.requires.way)))
@@ -85,14 +83,11 @@ module _ (c : In-loop-row) where
       let only = c.loop-row.invariant.only in
       hand_same (view c.args.pass.now) (view c.loop-row.pass) (table_id c.args.table) only.work.pass.shape only.words
 
-pub overflow_mul : goal.overflow_mul
-overflow_mul c = let i = entry_inside (goal.at.overflow_mul c).In-loop-row in let s = c.cell_of-start.ensures.place.1 in let l = c.args.bank.now.low in omega (arith, i, s, l)
+pub overflow_mul-entry : goal.overflow_mul-entry
+overflow_mul-entry c = let i = entry_inside (goal.at.overflow_mul-entry c).In-loop-row in let s = c.cell_of-start.ensures.place.1 in let l = c.args.bank.now.low in omega (arith, i, s, l)
 
-pub overflow_add : goal.overflow_add
-overflow_add c = let i = entry_inside (goal.at.overflow_add c).In-loop-row in let s = c.cell_of-start.ensures.place.1 in let l = c.args.bank.now.low in omega (arith, i, s, l)
-
-pub overflow_add-2 : goal.overflow_add-2
-overflow_add-2 c = let i = entry_inside (goal.at.overflow_add-2 c).In-loop-row in let s = c.cell_of-start.ensures.place.1 in let l = c.args.bank.now.low in omega (arith, i, s, l)
+pub overflow_add-entry : goal.overflow_add-entry
+overflow_add-entry c = let i = entry_inside (goal.at.overflow_add-entry c).In-loop-row in let s = c.cell_of-start.ensures.place.1 in let l = c.args.bank.now.low in omega (arith, i, s, l)
 
 pub drop_entry-requires-clause-out : goal.drop_entry-requires-clause-out
 drop_entry-requires-clause-out c = c.loop-row.invariant.only.work.hands (table_id c.args.table) ∙ c.requires.out
@@ -152,11 +147,10 @@ returns-clause-references c b =
     let k = shape_of c.args.bank.now in
     let kind = kind_in k.starts c.args.o in
     let class = class_of (table_id c.args.table) in
-    let last : c.room_of.result ≡ rows kind class =
-        c.room_of.ensures
+    let last : c.room_of-row-end.result ≡ rows kind class =
+        c.room_of-row-end.ensures
         ∙ (ap (room c.args.way) (c.mask_of-mask.ensures ∙ ap class_mask (sym (class_is c.args.table c.requires.table.2)))
         ∙ (room_of_way c.args.way class (subst (λ (z : ℕ). IsClass z) (sym (class_is c.args.table c.requires.table.2)) c.requires.table.0)
         ∙ ap (λ (z : Kind). rows z class) (sym c.requires.way))) in
     let test = c.loop-row-test.false in
-    let high = c.loop-row.row_in_range in
     ap (λ (n : ℕ). references_held k b (view c.loop-row.pass).log + sum_to (gone_names_at b kind class (in_hand (table_id c.args.table) (view c.args.pass.now))) n) (let e : rows kind class ≡ c.loop-row.row = omega (arith, last, test) in e) ∙ d

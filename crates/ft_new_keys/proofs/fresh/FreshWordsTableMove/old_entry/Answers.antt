@@ -8,7 +8,6 @@ use Rattle.ft_trace.specs.declared.View.{View}
 use Rattle.ft_trace.specs.Acts.{has_lock}
 use Rattle.ft_trace.specs.Addresses.{container_count, class_of, size}
 use Rattle.ft_trace.specs.Holds.{held_words, held_unboxed, in_hand}
-use Rattle.ft_trace.specs.Pictures.{ContainerWords}
 use Rattle.ft_bank.specs.Passes.{shape_of, view}
 use Rattle.ft_bank.specs.Whole.{OnlyLoaded}
 use Rattle.ft_bank.proofs.KnownAfterWrites.{loaded_by, loaded_held}

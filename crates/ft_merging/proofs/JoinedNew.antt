@@ -30,6 +30,7 @@ use Rattle.ft_new_keys.specs.KeyGrowth.{BeginsIn, KnowsKeyed, MayGrowKeyed}
 use Rattle.ft_new_keys.specs.Placing.{AreCounts, counted}
 use Rattle.ft_new_keys.proofs.Keyed.{Heads, counts_known}
 use Rattle.ft_new_keys.proofs.Placed.{use_with}
+use Rattle.ft_new_keys.proofs.Grown.{grow_begins}
 use Rattle.ft_new_keys.proofs.Rooted.{filled_says}
 use Rattle.ft_merging.specs.Joining.{joined, new_keys}
 use Rattle.ft_merging.specs.Internal.JoiningSteps.{IsJoining, NoneGone}
@@ -67,7 +68,7 @@ module _ (heads : Heads) (laws : Laws) (k : Shape) (o : ℕ) (by : Way) (old : O
 
   stands : Represents k.texts (held_unboxed o z) (record { content = d; table = use_with c counts.count })
   stands =
-      let says = filled_says laws.pairs laws.elements heads k o old new x may shape possible moved in
+      let says = filled_says laws.pairs laws.elements heads k o old new x (grow_begins k o old new x shape may) shape possible moved in
       let n = many.0 in
       let r = many.1 in
       let here : StandsAs k.texts (counted (slice_set (held_unboxed o x).block 0 (suc (table_id new))) counts.count counts.count counts.next) (0 ∷ 0 ∷ hand_unboxed o (table_id new) x) (use_with c counts.count) d =

@@ -26,13 +26,13 @@ use Rattle.ft_bank.proofs.TableAddresses.{named}
 use Rattle.ft_bank.proofs.WordsPut.{taken_words}
 use Rattle.ft_search.specs.OneEntryWrites.{WritesEntries}
 use Rattle.ft_search.proofs.Overs.{boxed_held}
-use Rattle.ft_search.proofs.Puts.{few_done, few_same}
-use Rattle.ft_new_keys.specs.KeyGrowth.{BeginsIn, MayGrowKeyed}
+use Rattle.ft_search.proofs.Puts.{few_same}
+use Rattle.ft_new_keys.specs.KeyGrowth.{BeginsIn, MayBeginKeyed}
 use Rattle.ft_new_keys.specs.Moving.{HasMoved, HoldsGone, gone_in_old, gone_in_root, live_in_root}
 use Rattle.ft_new_keys.proofs.GoneEntries.{split_names}
 use Rattle.ft_new_keys.proofs.Keyed.{fresh_other}
 
-module _ (k : Shape) (o : ℕ) (old : Option Table) (table : Table) (v s r : View) (f : ℕ) (shape : v.shape ≡ k) (possible : ∥ IsReachable v ∥₁) (may : MayGrowKeyed k o old table v) (carried : HasMoved k o table v) (started : s ≡ view_after (StartWrite o f) v)
+module _ (k : Shape) (o : ℕ) (old : Option Table) (table : Table) (v s r : View) (f : ℕ) (shape : v.shape ≡ k) (possible : ∥ IsReachable v ∥₁) (may : MayBeginKeyed k o old table v) (carried : HasMoved k o table v) (started : s ≡ view_after (StartWrite o f) v)
     (put : r ≡ view_after (PutRoot o (suc (table_id table)) (root_in (held_words o s))) s) (keeps : KeepsUnwritten s r) (moves : MovesReferences o s r) (held : held_words o r ≡ record { block = slice_set (held_words o s).block 0 (suc (table_id table)); table = in_hand (table_id table) s }) where
   abbrev begun : View
   begun = view_after (StartWrite o f) v
@@ -121,7 +121,7 @@ module _ (k : Shape) (o : ℕ) (old : Option Table) (table : Table) (v s r : Vie
       by None has_it = λ d. gone_in_root b kd (sym (may.keyed.root ∙ ap root_for has_it) d) (held_words o v).table
 
   pub settled_r : IsSettled r.log
-  settled_r = (stays_settled_same v r made_r).settled may.boxes.settled
+  settled_r = (stays_settled_same v r made_r).settled may.settled
 
   pub held_gone : HoldsGone k o old r
   held_gone b = let is = gone_is b in let refs = refs_r b in omega (arith, is, refs)
@@ -168,7 +168,7 @@ module _ (k : Shape) (o : ℕ) (old : Option Table) (table : Table) (v s r : Vie
       odd = boxed.work.pass.writes o ∙ (ap (λ (z : View). is_writing o z.log) is_rooted ∙ hit o true (is_writing o v.log));
       root = ap root_in (boxed_held r w o boxed) ∙ root_r;
       settled = made.settled settled_r;
-      few = few_same v w begun_references (few_done k v shape may.boxes);
+      few = few_same v w begun_references may.few;
     }
 
     pub begun_words : held_unboxed o w ≡ held_unboxed o r

@@ -19,3 +19,4 @@ pub mod MovedTables
 pub mod NamedValues
 pub mod MovedFills
 pub mod GoneEntries
+pub mod UnstoredBoxes

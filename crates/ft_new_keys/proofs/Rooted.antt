@@ -20,7 +20,7 @@ use Rattle.ft_trace.specs.declared.Act.TheVariants.{StartWrite}
 use Rattle.ft_trace.specs.declared.Shape.{Shape}
 use Rattle.ft_trace.specs.declared.View.{View}
 use Rattle.ft_trace.specs.Acts.{is_writing, mem, view_after, stage}
-use Rattle.ft_trace.specs.Addresses.{class_of, slots}
+use Rattle.ft_trace.specs.Addresses.{class_of, container_count, slots}
 use Rattle.ft_trace.specs.Boxes.{named_in_root, known_box_word}
 use Rattle.ft_trace.specs.Holds.{held_words, held_unboxed, known_state, in_hand, hand_unboxed}
 use Rattle.ft_trace.specs.Kinds.{rows, version_at, SoundAs, IsKeyed}
@@ -45,11 +45,12 @@ use Rattle.ft_search.specs.Held.{IsHeldAt}
 use Rattle.ft_search.specs.Rounds.{kind_by}
 use Rattle.ft_search.proofs.Changing.{kind_is, shut_known}
 use Rattle.ft_search.proofs.WordPlaces.{slots_of_class}
-use Rattle.ft_search.proofs.Puts.{few_done, keyed_version, table_class}
+use Rattle.ft_search.proofs.Puts.{keyed_version, table_class}
 use Rattle.ft_new_keys.specs.declared.counts.Counts.{Counts}
 use Rattle.ft_new_keys.specs.Moving.{live_in_root, HasMoved}
 use Rattle.ft_new_keys.proofs.GoneEntries.{split_names}
-use Rattle.ft_new_keys.specs.KeyGrowth.{MayGrowKeyed, IsFreeFor}
+use Rattle.ft_new_keys.proofs.UnstoredBoxes.{taken_unnamed}
+use Rattle.ft_new_keys.specs.KeyGrowth.{MayBeginKeyed, IsFreeFor}
 use Rattle.ft_new_keys.specs.Placing.{AreCounts, StoresAs, counted}
 use Rattle.ft_new_keys.proofs.Keyed.{Heads, way_is, counts_known}
 use Rattle.ft_new_keys.proofs.Placed.{Fresh, use_with, none_used, counted_head, kind_shut}
@@ -100,7 +101,7 @@ rooted_head b class k table count fill next h table_in =
 
 -- ---- the root
 
-module _ (first_pair : FirstEntriesArePairs) (first_element : FirstEntriesAreElements) (heads : Heads) (k : Shape) (o : ℕ) (old : Option Table) (table : Table) (v : View) (may : MayGrowKeyed k o old table v) (shape : v.shape ≡ k) (possible : ∥ IsReachable v ∥₁) (moved : HasMoved k o table v) where
+module _ (first_pair : FirstEntriesArePairs) (first_element : FirstEntriesAreElements) (heads : Heads) (k : Shape) (o : ℕ) (old : Option Table) (table : Table) (v : View) (may : MayBeginKeyed k o old table v) (shape : v.shape ≡ k) (possible : ∥ IsReachable v ∥₁) (moved : HasMoved k o table v) where
   abbrev c : ℕ
   c = class_of (table_id table)
 
@@ -179,10 +180,13 @@ module _ (first_pair : FirstEntriesArePairs) (first_element : FirstEntriesAreEle
     spare = λ some_one. may.used;
     early = λ e. absurd (true≢false (ap is_some e));
     references = record {
-      few = few_done k v shape may.boxes;
+      few = may.few;
       enough = λ b. let fewer = names_fewer b in omega (arith, fewer);
       known = λ b none some. absurd (some (let fewer = names_fewer b in omega (arith, fewer, none)));
-      stored = λ b taken. absurd (may.boxes.stored b taken);
+      stored = λ b taken.
+          let fewer = names_fewer b in
+          let none = taken_unnamed v o b possible (subst (λ (z : Shape). o < container_count z) (sym shape) may.keyed.container) may.keyed.locked may.keyed.even taken in
+          omega (arith, fewer, none);
     };
   }
 

@@ -35,10 +35,10 @@ module _ (v : View) (o b : ℕ) (possible : ∥ IsReachable v ∥₁) (low : o <
       (λ ne. ⊎_elim
       (λ was. let two = s.mine x.1 v there ((s.views x.1 v there).maker (λ z. omega (arith, z, taken))) was in absurd (omega (arith, two, taken)))
       (λ (w : Writes k b es o).
-      let theirs = writer_has k es valid o w.0 w.1 w.2.0 w.2.1 in
-      let one = one_holder k es valid o low x.1 w.0 v w.1 there w.2.0 mine theirs in
-      let view_is : v ≡ w.1 = some-injective v w.1 (sym there ∙ (ap (λ (i : ℕ). get_elem? (run k es).views i) one ∙ w.2.0)) in
-      absurd (true≢false (sym (ap (λ (u : View). is_writing o u.log) view_is ∙ w.2.1) ∙ even)))
+      let theirs = writer_has k es valid o w.0 w.1 w.2 w.3 in
+      let one = one_holder k es valid o low x.1 w.0 v w.1 there w.2 mine theirs in
+      let view_is : v ≡ w.1 = some-injective v w.1 (sym there ∙ (ap (λ (i : ℕ). get_elem? (run k es).views i) one ∙ w.2)) in
+      absurd (true≢false (sym (ap (λ (u : View). is_writing o u.log) view_is ∙ w.3) ∙ even)))
       (s.named o low ne))
 
   pub taken_unnamed : named_in_words b (kind_in v.shape.starts o) (held_words o v) ≡ 0

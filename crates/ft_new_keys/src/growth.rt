@@ -29,7 +29,7 @@ ghost use Rattle.ft_search.specs.Held.{IsHeldAt, KnowsTable};
 ghost use Rattle.ft_search.specs.Rounds.{kind_by};
 ghost use Rattle.ft_search.specs.OneEntryWrites.{WritesEntries};
 ghost use Rattle.ft_new_keys.specs.Moving.{HasMoved};
-ghost use Rattle.ft_new_keys.specs.KeyGrowth.{AddsKey, BeginsIn, HoldsOld, IsFreeFor, MayGrowKeyed, key_takes, most_of, named_in_old};
+ghost use Rattle.ft_new_keys.specs.KeyGrowth.{AddsKey, BeginsIn, HoldsOld, IsFreeFor, MayBeginKeyed, MayGrowKeyed, key_takes, most_of, named_in_old};
 ghost use Rattle.ft_new_keys.specs.Placing.{AreCounts, StoresAs};
 
 use crate::counts::Counts;
@@ -88,7 +88,7 @@ pub fn drop_old(bank: &Bank, pass: &mut Pass, o: u32, way: Way, old: Option<Tabl
 pub fn begin_in(bank: &Bank, pass: &mut Pass, o: u32, way: Way, old: Option<Table>, table: Table)
     requires pass { IsPassOf bank.now pass.old }
     requires way { kind_in (shape_of bank.now).starts o ≡ kind_by way }
-    requires may { MayGrowKeyed (shape_of bank.now) o old table (view pass.old) }
+    requires may { MayBeginKeyed (shape_of bank.now) o old table (view pass.old) }
     requires moved { HasMoved (shape_of bank.now) o table (view pass.old) }
     ensures pass { IsPassOf bank.now pass.new }
     ensures stack { stack_of pass.new ≡ stack_of pass.old }

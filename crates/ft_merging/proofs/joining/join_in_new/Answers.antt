@@ -16,7 +16,7 @@ use Rattle.ft_search.specs.Rounds.{kind_by}
 use Rattle.ft_search.proofs.Changing.{kind_is}
 use Rattle.ft_new_keys.specs.KeyGrowth.{MayGrowKeyed}
 use Rattle.ft_new_keys.proofs.FinishedKeys.{since_root}
-use Rattle.ft_new_keys.proofs.Grown.{filled_has, grow_filled, grown_wrote, knows_filled, same_filled, words_filled}
+use Rattle.ft_new_keys.proofs.Grown.{filled_has, grow_begins, grow_filled, grown_wrote, knows_filled, same_filled, words_filled}
 use Rattle.ft_new_keys.proofs.Keyed.{counts_known}
 use Rattle.ft_new_keys.proofs.Placed.{refs_then}
 use Rattle.ft_merging.specs.Joining.{JoinsKeys, join_takes, joined}
@@ -114,7 +114,7 @@ joins c =
     joins_later a.merge.now.o a.merge.now.t a.called.now (view a.pass.now) (view c.move_entries.new.pass) (filled_has (view a.pass.now) (view c.move_entries.new.pass) c.move_entries.ensures.only) c.move_entries.ensures.only.work.pass.locks (same c).1 (other c) c.requires.joins
 
 pub begin_in-requires-clause-may : goal.begin_in-requires-clause-may
-begin_in-requires-clause-may c = grow (goal.at.begin_in-requires-clause-may c).After-move_entries
+begin_in-requires-clause-may c = grow_begins (shape_of c.args.bank.now) c.args.merge.now.o c.args.old c.args.new (view c.move_entries.new.pass) c.move_entries.ensures.pass.1 (grow (goal.at.begin_in-requires-clause-may c).After-move_entries)
 
 -- ---- once its root names the table
 

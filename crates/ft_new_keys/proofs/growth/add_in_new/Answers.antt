@@ -26,11 +26,11 @@ use Rattle.ft_search.specs.OneEntryWrites.{Leaves, WritesEntries}
 use Rattle.ft_search.proofs.Changing.{Changing, kind_is}
 use Rattle.ft_search.proofs.Puts.{writes_on}
 use Rattle.ft_new_keys.specs.declared.counts.Counts.{Counts}
-use Rattle.ft_new_keys.specs.KeyGrowth.{MayGrowKeyed, IsFreeFor}
+use Rattle.ft_new_keys.specs.KeyGrowth.{MayBeginKeyed, MayGrowKeyed, IsFreeFor}
 use Rattle.ft_new_keys.specs.Placing.{AreCounts, with_key}
 use Rattle.ft_new_keys.specs.Internal.Laying.{IsUnused, with_entry}
 use Rattle.ft_new_keys.proofs.FinishedKeys.{adds_leaves, key_finishes, since_root}
-use Rattle.ft_new_keys.proofs.Grown.{grow_filled, grown_wrote, leaves_filled, same_filled, words_filled, filled_has}
+use Rattle.ft_new_keys.proofs.Grown.{grow_begins, grow_filled, grown_wrote, leaves_filled, same_filled, words_filled, filled_has}
 use Rattle.ft_new_keys.proofs.Keyed.{counts_known}
 use Rattle.ft_new_keys.proofs.Placed.{Fresh, PlaceLaws, pair_for, place_unused, places_key, refs_then, stores_plain, use_with}
 use Rattle.ft_new_keys.proofs.Rooted.{absent_in, filled_says, fresh_rooted, shut_rooted}
@@ -73,6 +73,11 @@ grow c =
     let a = c.args in
     grow_filled (shape_of a.bank.now) a.o a.old a.table (view a.pass.now) (view c.move_entries.new.pass) c.requires.pass.1 c.move_entries.ensures.only c.requires.may
 
+begins : (c : After-move_entries) → MayBeginKeyed (shape_of c.args.bank.now) c.args.o c.args.old c.args.table (view c.move_entries.new.pass)
+begins c =
+    let a = c.args in
+    grow_begins (shape_of a.bank.now) a.o a.old a.table (view c.move_entries.new.pass) c.move_entries.ensures.pass.1 (grow c)
+
 same : (c : After-move_entries) → (held_unboxed c.args.o (view c.move_entries.new.pass) ≡ held_unboxed c.args.o (view c.args.pass.now)) × (known_state c.args.o (view c.move_entries.new.pass) ≡ known_state c.args.o (view c.args.pass.now))
 same c =
     let a = c.args in
@@ -88,7 +93,7 @@ kind_eq : (c : After-move_entries) → kind_of (known_state c.args.o (view c.mov
 kind_eq c = kind_is (shape_of c.args.bank.now) (view c.move_entries.new.pass) c.args.o c.move_entries.ensures.pass.1 c.move_entries.new.pass.possible (grow c).keyed.locked
 
 pub begin_in-requires-clause-may : goal.begin_in-requires-clause-may
-begin_in-requires-clause-may c = grow (goal.at.begin_in-requires-clause-may c).After-move_entries
+begin_in-requires-clause-may c = begins (goal.at.begin_in-requires-clause-may c).After-move_entries
 
 -- ---- the root names it
 
@@ -99,7 +104,7 @@ free_slot-slot-requires-clause-absent c =
     let d = (goal.at.free_slot-slot-requires-clause-absent c).After-move_entries in
     let x = view c.move_entries.new.pass in
     let l = laws d in
-    let says = filled_says l.first_pair l.first_element l.head k a.o a.old a.table x (grow d) c.move_entries.ensures.pass.1 c.move_entries.new.pass.possible d.move_entries.ensures.moved in
+    let says = filled_says l.first_pair l.first_element l.head k a.o a.old a.table x (begins d) c.move_entries.ensures.pass.1 c.move_entries.new.pass.possible d.move_entries.ensures.moved in
     let there = absent_in k.texts _ (hand_unboxed a.o (table_id a.table) x) (class_of (table_id a.table)) (length_of (known_state a.o x).content) (known_state a.o x).content a.way a.key (kind_eq d ∙ c.requires.way) says (absent d) in
     let class = class_is a.table c.requires.may.table_in.2 in
     subst (λ (z : ℕ × ContainerWords). (used : List UsedEntry) × IsTableOf a.way k.texts (class_mask z.0) used (0 ∷ 0 ∷ z.1.table) × All (λ (e : UsedEntry). e.key ≢ a.key) (filter is_live used))
@@ -124,7 +129,7 @@ fresh c y slot hash words is low free =
     let x = view c.move_entries.new.pass in
     let l = laws c in
     let free_here : IsFreeFor k.texts a.way a.table.class a.key (hand_unboxed a.o (table_id a.table) x) slot = subst (λ (z : ContainerWords). IsFreeFor k.texts a.way a.table.class a.key z.table slot) words free in
-    fresh_rooted l.first_pair l.first_element l.head k a.o a.old a.table x (grow c) c.move_entries.ensures.pass.1 c.move_entries.new.pass.possible c.move_entries.ensures.moved a.way c.requires.way slot a.counts a.key a.stored (counts c) c.requires.fits (subst (λ (z : ℕ). z < 2 ^ 64) is low) c.requires.stores c.requires.value (absent c) free_here c.requires.room
+    fresh_rooted l.first_pair l.first_element l.head k a.o a.old a.table x (begins c) c.move_entries.ensures.pass.1 c.move_entries.new.pass.possible c.move_entries.ensures.moved a.way c.requires.way slot a.counts a.key a.stored (counts c) c.requires.fits (subst (λ (z : ℕ). z < 2 ^ 64) is low) c.requires.stores c.requires.value (absent c) free_here c.requires.room
 
 pair : (c : After-move_entries) (hash : ℕ) → hash ≡ hash_of (shape_of c.args.bank.now).texts c.args.key → pair_for (shape_of c.args.bank.now).texts (known_state c.args.o (view c.move_entries.new.pass)).content c.args.key c.args.stored ≡ record { hash = hash; key = c.args.key; value = c.args.stored; serial = c.args.counts.next }
 pair c hash is =
@@ -200,7 +205,7 @@ finish_entry-requires-clause-may c =
     c.requires.adds.takes found (filled_has v x c.move_entries.ensures.only found has) ∙ (c.requires.takes ∙ ap (λ (n : ℕ). Some n) is))
     (kind_eq d) (known_state a.o x).table
     (subst (λ (z : ContainerWords). Changing k.texts t z (known_state a.o x) a.counts.count [] (record { content = with_key content a.key a.stored; table = use_with (class_of t) (a.counts.count + 1) })) made
-    (places_key (laws d) k.texts (rooted d) t c.free_slot-slot.result (all d) content a.key a.stored (fresh d (held_unboxed a.o y) c.free_slot-slot.result c.hash_of-hash.result c.begin_in.ensures.words c.hash_of-hash.ensures c.hash_of-hash.type_inv c.free_slot-slot.ensures.slot) (shut_rooted (laws d).first_pair (laws d).first_element (laws d).head k a.o a.old a.table x (grow d) c.move_entries.ensures.pass.1 c.move_entries.new.pass.possible d.move_entries.ensures.moved) (known_state a.o x).table))
+    (places_key (laws d) k.texts (rooted d) t c.free_slot-slot.result (all d) content a.key a.stored (fresh d (held_unboxed a.o y) c.free_slot-slot.result c.hash_of-hash.result c.begin_in.ensures.words c.hash_of-hash.ensures c.hash_of-hash.type_inv c.free_slot-slot.ensures.slot) (shut_rooted (laws d).first_pair (laws d).first_element (laws d).head k a.o a.old a.table x (begins d) c.move_entries.ensures.pass.1 c.move_entries.new.pass.possible d.move_entries.ensures.moved) (known_state a.o x).table))
     e.writes.root
 
 pub returns-clause-wrote : goal.returns-clause-wrote

@@ -155,9 +155,9 @@ returns-clause-references c b =
     let kind = kind_in k.starts c.args.o in
     let class = class_of (table_id c.args.table) in
     let last : c.room_of-row-end.result ≡ rows kind class =
-        c.room_of-row-end.ensures
-        ∙ (ap (room c.args.way) (c.mask_of-mask.ensures ∙ ap class_mask (sym (class_is c.args.table c.requires.table.2)))
-        ∙ (room_of_way c.args.way class (subst (λ (z : ℕ). IsClass z) (sym (class_is c.args.table c.requires.table.2)) c.requires.table.0)
-        ∙ ap (λ (z : Kind). rows z class) (sym c.requires.way))) in
+    c.room_of-row-end.ensures
+    ∙ (ap (room c.args.way) (c.mask_of-mask.ensures ∙ ap class_mask (sym (class_is c.args.table c.requires.table.2)))
+    ∙ (room_of_way c.args.way class (subst (λ (z : ℕ). IsClass z) (sym (class_is c.args.table c.requires.table.2)) c.requires.table.0)
+    ∙ ap (λ (z : Kind). rows z class) (sym c.requires.way))) in
     let test = c.loop-row-test.false in
     ap (λ (n : ℕ). references_held k b (view c.loop-row.pass).log + sum_to (gone_names_at b kind class (in_hand (table_id c.args.table) (view c.args.pass.now))) n) (let e : rows kind class ≡ c.loop-row.row = omega (arith, last, test) in e) ∙ d

@@ -75,8 +75,8 @@ pub record MayGrowKeyed (k : Shape) (o : ℕ) (old : Option Table) (table : Tabl
   pub boxes : IsDoneWithBoxes k v.log
   pub left : 0 < v.left
 
--- It has such a table and may put it into the root: it may hold few references for boxes, where what it has to do with its
--- own boxes is settled. (profile)
+-- It has such a table and may put it into the root: it may hold few references for boxes, where what it has to do with
+-- its own boxes is settled. (profile)
 pub record MayBeginKeyed (k : Shape) (o : ℕ) (old : Option Table) (table : Table) (v : View) : Type 0 where
   pub keyed : KnowsKeyed k o old v
   pub even : (p : ℕ) → is_writing p v.log ≡ false

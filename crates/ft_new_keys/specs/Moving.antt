@@ -1,5 +1,5 @@
--- A table that a dict or a set gets in the place of the one that it has, with the references of its boxes: each value that
--- stands in a box has its box there as well.
+-- A table that a dict or a set gets in the place of the one that it has, with the references of its boxes: each value
+-- that stands in a box has its box there as well.
 use Rattle.std.specs.Prelude.{◌≡◌, ℕ, zero, suc, ◌<◌, ◌≤◌, nat_lt, if◌then◌else◌, List, [], ◌∷◌, Option, Some}
 use Rattle.ft_model.specs.declared.script.Kind.{Kind}
 use Rattle.ft_model.specs.Worlds.{length_of, serial_of}
@@ -36,9 +36,9 @@ abbrev pub gone_in_root : ℕ → Kind → ℕ → List ℕ → ℕ
 gone_in_root b kind zero ws = 0
 gone_in_root b kind (suc t) ws = sum_to (gone_names_at b kind (class_of t) ws) (rows kind (class_of t))
 
--- The table that is fresh in the pass's hand reads what the dict or the set o has, each pair or element in one entry, in
--- their order, with its serial, and no entry for another key; each version is 0. It names each box as often as the table
--- that o has does for keys that are there. (profile)
+-- The table that is fresh in the pass's hand reads what the dict or the set o has, each pair or element in one entry,
+-- in their order, with its serial, and no entry for another key; each version is 0. It names each box as often as the
+-- table that o has does for keys that are there. (profile)
 pub record HasMoved (k : Shape) (o : ℕ) (table : Table) (v : View) : Type 0 where
   pub says : (block : List ℕ) → IsBlock block (Some (class_of (table_id table)))
       (length_of (known_state o v).content) (length_of (known_state o v).content) (serial_of (known_state o v).content)

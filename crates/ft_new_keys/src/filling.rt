@@ -153,15 +153,16 @@ pub struct Growth {
     pub fill: u64,
 }
 
-/// Fills a blank table that is fresh in hand with the entries of the table of a dict or a set that are there. Each value
-/// that stands in a box has its box there as well.
+/// Fills a blank table that is fresh in hand with the entries of the table of a dict or a set that are there. Each
+/// value that stands in a box has its box there as well.
 fn move_table(bank: &Bank, pass: &mut Pass, o: u32, growth: &Growth, old: Table)
     requires pass { IsPassOf bank.now pass.old }
     requires keyed { KnowsKeyed (shape_of bank.now) o (Some old) (view pass.old) }
     requires way { kind_in (shape_of bank.now).starts o ≡ kind_by growth.now.way }
     requires table { IsTableIn (shape_of bank.now) growth.now.table }
     requires fresh { stage (table_id growth.now.table) (view pass.old).log ≡ 1 }
-    requires blank { HasZeroWords (class_of (table_id growth.now.table)) (in_hand (table_id growth.now.table) (view pass.old)) }
+    requires blank { HasZeroWords (class_of (table_id growth.now.table))
+        (in_hand (table_id growth.now.table) (view pass.old)) }
     requires fill { growth.now.fill ≡ (known_state o (view pass.old)).table.fill }
     requires room { length_of (known_state o (view pass.old)).content
         ≤ rows (kind_by growth.now.way) (class_of (table_id growth.now.table)) }
@@ -191,8 +192,8 @@ fn move_table(bank: &Bank, pass: &mut Pass, o: u32, growth: &Growth, old: Table)
     rebuild_in(&mut words, growth.way, mask, growth.fill);
 }
 
-/// Fills the table that a dict or a set is to get, which is fresh in hand, with what it has. Each value that stands in a
-/// box has its box there as well: its reference moves with the root.
+/// Fills the table that a dict or a set is to get, which is fresh in hand, with what it has. Each value that stands in
+/// a box has its box there as well: its reference moves with the root.
 pub fn move_entries(bank: &Bank, pass: &mut Pass, o: u32, growth: &Growth)
     requires pass { IsPassOf bank.now pass.old }
     requires keyed { KnowsKeyed (shape_of bank.now) o growth.now.old (view pass.old) }

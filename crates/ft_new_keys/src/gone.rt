@@ -1,5 +1,5 @@
-//! The references that deleted entries have of a table which a growth took out of a root. The entries that are there have
-//! theirs in the new table; no words name the boxes of the deleted ones any longer, and the pass drops them.
+//! The references that deleted entries have of a table which a growth took out of a root. The entries that are there
+//! have theirs in the new table; no words name the boxes of the deleted ones any longer, and the pass drops them.
 ghost use Rattle.std.specs.Prelude.{◌≡◌, ℕ, ◌+◌, ◌<◌, nat_lt, if◌then◌else◌, false, Option, Some, slice_index};
 ghost use Rattle.ft_trace.specs.Acts.{stage};
 ghost use Rattle.ft_trace.specs.Addresses.{class_of, size};
@@ -81,7 +81,8 @@ pub(crate) fn drop_gone(bank: &Bank, pass: &mut Pass, o: u32, way: Way, old: Opt
     }
 }
 
-/// Drops the references of the values of deleted entries in a table that the pass took out of the root of the container o.
+/// Drops the references of the values of deleted entries in a table that the pass took out of the root of the
+/// container o.
 fn drop_gone_in(bank: &Bank, pass: &mut Pass, o: u32, way: Way, table: Table)
     requires pass { IsPassOf bank.now pass.old }
     requires way { kind_in (shape_of bank.now).starts o ≡ kind_by way }

@@ -1,8 +1,8 @@
 //! Dicts and sets that get another table, under the lock. The new table is filled with what the container has
 //! before the container's version is made odd; then it is put into the root, and the new key is added there
 //! like any other. So who looks without the lock finds the same in either table until the counter is raised.
-//! Values that stand in boxes have their boxes in the new table as well: the references move with the root. Only those of
-//! deleted entries are dropped.
+//! Values that stand in boxes have their boxes in the new table as well: the references move with the root. Only those
+//! of deleted entries are dropped.
 ghost use Rattle.std.specs.Prelude.{◌≡◌, ◌≢◌, ℕ, suc, ◌+◌, ◌^◌, ◌<◌, ◌≤◌, List, [], ◌∷◌, All, filter, Option, nat_lt, false, Some, None, slice_set};
 ghost use Rattle.ft_model.specs.Classes.{IsClass};
 ghost use Rattle.ft_model.specs.Worlds.{length_of, serial_of};
@@ -84,8 +84,8 @@ pub fn drop_old(bank: &Bank, pass: &mut Pass, o: u32, way: Way, old: Option<Tabl
     }
 }
 
-/// Makes the version of a dict or a set odd and puts a table into its root that has what it has, each value in the box in
-/// which it stands, whose reference the new words have. The references of deleted entries are dropped.
+/// Makes the version of a dict or a set odd and puts a table into its root that has what it has, each value in the box
+/// in which it stands, whose reference the new words have. The references of deleted entries are dropped.
 pub fn begin_in(bank: &Bank, pass: &mut Pass, o: u32, way: Way, old: Option<Table>, table: Table)
     requires pass { IsPassOf bank.now pass.old }
     requires way { kind_in (shape_of bank.now).starts o ≡ kind_by way }

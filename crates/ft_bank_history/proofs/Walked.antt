@@ -29,7 +29,9 @@ use Rattle.ft_model.specs.declared.reply.Raise.TheVariants as raise
 use Rattle.ft_model.specs.declared.script.Start.{Start}
 use Rattle.std.specs.Option.{option_map_or}
 use Rattle.ft_model.specs.Answers.{Answer, answer, cursor_step, is_memory, moves, shows, world_by}
-use Rattle.ft_model.specs.Calls.{cursor_of_dict, moved_cursor}
+use Rattle.ft_model.specs.Boxings.{boxes, is_boxed, stored_in_dict, stored_in_list, stored_in_deque}
+use Rattle.ft_model.specs.Calls.{cursor_of_dict, cursor_of_list, cursor_of_deque, moved_cursor}
+use Rattle.ft_model.specs.Contents.{DictContent}
 use Rattle.ft_model.specs.Cursors.{CursorStep, dict_iter, dict_next, dict_walk, list_iter, list_next, list_walk, next_element, next_pair, set_iter, set_next, set_walk, deque_iter, deque_next, deque_walk, dict_reversed, dict_back_next, dict_back_walk, prior_pair, list_reversed, list_back_next, list_back_walk}
 use Rattle.ft_model.specs.Deques.{DequeContent}
 use Rattle.ft_model.specs.Histories.{after_stamped, hands_by}
@@ -252,12 +254,35 @@ leaving_plain : (starts : List Start) (called : Call) → can_leave_split starts
 leaving_plain starts (call.Dict o c) leaves = out_plain c (both_true (takes_out c) (is_split (start_in starts o).keys) leaves)
 leaving_plain starts called leaves = absurd (let e : false ≡ true = leaves in cc)
 
+-- a call that would put a value in a box asks no cursor
+boxing_dict : (old : DictContent) (c : DictCall) → option_map_or is_boxed (stored_in_dict old c) false ≡ true → cursor_of_dict c ≡ None
+boxing_dict old (dict.Set key value) boxed = refl
+boxing_dict old (dict.SetDefault key default) boxed = refl
+boxing_dict old c boxed = absurd (let e : false ≡ true = boxed in cc)
+
+boxing_list : (c : ListCall) → option_map_or is_boxed (stored_in_list c) false ≡ true → cursor_of_list c ≡ None
+boxing_list (list.Append value) boxed = refl
+boxing_list (list.Insert index value) boxed = refl
+boxing_list (list.Set index value) boxed = refl
+boxing_list c boxed = absurd (let e : false ≡ true = boxed in cc)
+
+boxing_deque : (c : DequeCall) → option_map_or is_boxed (stored_in_deque c) false ≡ true → cursor_of_deque c ≡ None
+boxing_deque (deque.Append value) boxed = refl
+boxing_deque (deque.AppendLeft value) boxed = refl
+boxing_deque c boxed = absurd (let e : false ≡ true = boxed in cc)
+
+boxing_plain : (world : List Content) (called : Call) → boxes world called ≡ true → moved_cursor called ≡ None
+boxing_plain world (call.Dict o c) boxed = boxing_dict (dict_at world o) c boxed
+boxing_plain world (call.List o c) boxed = boxing_list c boxed
+boxing_plain world (call.Deque o c) boxed = boxing_deque c boxed
+boxing_plain world called boxed = absurd (let e : false ≡ true = boxed in cc)
+
 -- a MemoryError that has its cause
 pub earned_plain : (starts : List Start) (supply : Supply) (calls : List Call) (mine : List NamedEntry) (called : Call) (said : Reply) → IsEarnedReply starts supply calls mine called said → is_memory said ≡ true → moved_cursor called ≡ None
 earned_plain starts supply calls mine called (reply.Raised (raise.Memory class)) earned is =
     ⊎_elim (λ (lacks : CanLackMemory (stored_by starts calls).world called). adds_no_cursor called lacks.adds) (λ leaving. leaving_plain starts called leaving.leaves) earned.0
 earned_plain starts supply calls mine called (reply.Raised raise.Over) earned is = adds_no_cursor called earned.0.adds
-earned_plain starts supply calls mine called (reply.Raised raise.Heap) earned is = absurd (let e : false ≡ true = earned.landed in cc)
+earned_plain starts supply calls mine called (reply.Raised raise.Heap) earned is = boxing_plain (stored_by starts calls).world called earned.boxes
 earned_plain starts supply calls mine called (reply.Raised raise.NoKey) earned is = absurd (let e : false ≡ true = is in cc)
 earned_plain starts supply calls mine called (reply.Raised raise.NoIndex) earned is = absurd (let e : false ≡ true = is in cc)
 earned_plain starts supply calls mine called (reply.Raised r) earned is = absurd (let e : false ≡ true = is in cc)

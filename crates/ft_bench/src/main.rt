@@ -7,7 +7,9 @@
 mod answers;
 mod course;
 mod fills;
+mod known;
 mod operation;
+mod operators;
 mod outcome;
 mod pairs;
 mod plan;
@@ -23,7 +25,7 @@ mod worker;
 mod workload;
 
 use crate::outcome::show;
-use crate::plan::{Plan, Site};
+use crate::plan::Plan;
 use crate::run::run_workload;
 use crate::words::{Order, read_order};
 use crate::workload::workloads;
@@ -63,7 +65,7 @@ fn run_all<R: AllocGlobal + Clock + Print + Threads + Wait + Sync>(rt: &R) -> io
         let name = workload.name();
         let plan = Plan {
             workload,
-            site: Site::Known,
+            site: workload.site(),
             threads: 2,
             nanos: QUICK,
         };

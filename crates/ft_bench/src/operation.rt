@@ -26,13 +26,13 @@ pub enum Operation {
 
 /// The value that is stored at a key, or as the item at an index: its low ten bits are the key.
 #[inline(always)]
-fn value_of(key: u32, serial: u32) -> Value {
+pub(crate) fn value_of(key: u32, serial: u32) -> Value {
     Value::Int(i64::from(serial) * 1024 + i64::from(key))
 }
 
 /// The integer as a key.
 #[inline(always)]
-fn key_of(key: u32) -> Key {
+pub(crate) fn key_of(key: u32) -> Key {
     Key::Int(i64::from(key))
 }
 

@@ -20,9 +20,8 @@ fn set_all<R: Wait>(rt: &R, engine: &Engine, alloc: Global, worker: &mut Worker,
     requires { IsReadyCaller engine.now worker.old.caller }
     ensures { IsReadyCaller engine.now worker.new.caller }
 {
-    let site = worker.tally.site;
     for key in FIRST..pairs {
-        make(rt, engine, alloc, worker, site, Operation::Set(key));
+        make(rt, engine, alloc, worker, Operation::Set(key));
     }
 }
 

@@ -5,9 +5,13 @@ use crate::workload::Workload;
 /// Where the threads of a run make their calls.
 #[derive(Clone, Copy, Debug, PartialEq, Eq)]
 pub enum Site {
-    /// Each kind of operation makes its call at a place of its own, where the compiler knows which call it is.
-    Known,
-    /// All calls are made at one place.
+    /// Calls on a dict at places of their own, by the methods for these calls.
+    Dict,
+    /// The same of calls on a list.
+    List,
+    /// The same of calls on a set.
+    Set,
+    /// All calls at one place.
     Shared,
 }
 

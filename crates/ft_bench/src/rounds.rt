@@ -2,16 +2,16 @@
 ghost use Rattle.ft_bench.specs.Threads.{IsReadyCaller};
 ghost use Rattle.ft_engine.specs.Callers.{IsFreeCaller};
 
-use crate::answers::{answer, answer_known};
+use crate::answers::answer;
 use crate::course::Course;
 use crate::operation::Operation;
+use crate::operators::{AtOnePlace, OnDict, OnList, OnSet, Operator};
 use crate::pairs::{fill, watch};
 use crate::plan::Site;
 use crate::worker::Worker;
 use crate::workload::Workload;
 use ft_engine::{Caller, Engine};
 use ft_model::Call;
-use ft_section::Look;
 use std::alloc::Global;
 use std::sync::Wait;
 use std::time::Clock;
@@ -38,177 +38,33 @@ pub(crate) fn since<R: Clock>(rt: &R, start: u64) -> u64 {
     end.saturating_sub(start)
 }
 
-/// Looks, and counts the operation. Says whether it was made so.
-#[inline(always)]
-fn look(engine: &Engine, alloc: Global, worker: &mut Worker, operation: Operation) -> bool
-    requires { IsReadyCaller engine.now worker.old.caller }
-    ensures { IsReadyCaller engine.now worker.new.caller }
-{
-    let call = worker.tally.call_of(operation);
-    if !engine.may_look(&worker.caller, &call) {
-        return false;
-    }
-    match engine.look(alloc, &mut worker.caller, &call) {
-        Look::Done(reply, _) => {
-            worker.tally.count_reply(operation, &reply);
-            true
-        }
-        Look::Contended(_, _) => false,
-        Look::NoMemory => {
-            engine.abandon(&mut worker.caller);
-            false
-        }
-    }
-}
-
-/// Makes one operation by a call, and counts it.
-#[inline(always)]
-fn call<R: Wait>(rt: &R, engine: &Engine, alloc: Global, worker: &mut Worker, operation: Operation)
-    requires { IsReadyCaller engine.now worker.old.caller }
-    ensures { IsReadyCaller engine.now worker.new.caller }
-{
-    let call = worker.tally.call_of(operation);
-    let reply = answer_known(rt, engine, alloc, &mut worker.caller, &call);
-    worker.tally.count(operation, &reply);
-}
-
-/// Sets the value at a key.
-#[inline(never)]
-fn set<R: Wait>(rt: &R, engine: &Engine, alloc: Global, worker: &mut Worker, key: u32)
-    requires { IsReadyCaller engine.now worker.old.caller }
-    ensures { IsReadyCaller engine.now worker.new.caller }
-{
-    call(rt, engine, alloc, worker, Operation::Set(key));
-}
-
-/// Appends an item.
-#[inline(never)]
-fn append<R: Wait>(rt: &R, engine: &Engine, alloc: Global, worker: &mut Worker, key: u32)
-    requires { IsReadyCaller engine.now worker.old.caller }
-    ensures { IsReadyCaller engine.now worker.new.caller }
-{
-    call(rt, engine, alloc, worker, Operation::Append(key));
-}
-
-/// Adds an element.
-#[inline(never)]
-fn add<R: Wait>(rt: &R, engine: &Engine, alloc: Global, worker: &mut Worker, key: u32)
-    requires { IsReadyCaller engine.now worker.old.caller }
-    ensures { IsReadyCaller engine.now worker.new.caller }
-{
-    call(rt, engine, alloc, worker, Operation::Add(key));
-}
-
-/// Discards an element.
-#[inline(never)]
-fn discard<R: Wait>(rt: &R, engine: &Engine, alloc: Global, worker: &mut Worker, key: u32)
-    requires { IsReadyCaller engine.now worker.old.caller }
-    ensures { IsReadyCaller engine.now worker.new.caller }
-{
-    call(rt, engine, alloc, worker, Operation::Discard(key));
-}
-
-/// Makes one operation by a call. Each kind of writes has a function of its own, in which its call is known.
-#[inline(never)]
-fn make_called<R: Wait>(
-    rt: &R,
-    engine: &Engine,
-    alloc: Global,
-    worker: &mut Worker,
-    operation: Operation,
-)
-    requires { IsReadyCaller engine.now worker.old.caller }
-    ensures { IsReadyCaller engine.now worker.new.caller }
-{
-    match operation {
-        Operation::Set(key) => set(rt, engine, alloc, worker, key),
-        Operation::Append(key) => append(rt, engine, alloc, worker, key),
-        Operation::Add(key) => add(rt, engine, alloc, worker, key),
-        Operation::Discard(key) => discard(rt, engine, alloc, worker, key),
-        Operation::Get(_) | Operation::Item(_) | Operation::Has(_) => {
-            call(rt, engine, alloc, worker, operation)
-        }
-    }
-}
-
-/// Looks where the operation reads, with an arm for each kind, in which the call is known. Says whether it was made
-/// so.
-#[inline(always)]
-fn make_looked(engine: &Engine, alloc: Global, worker: &mut Worker, operation: Operation) -> bool
-    requires { IsReadyCaller engine.now worker.old.caller }
-    ensures { IsReadyCaller engine.now worker.new.caller }
-{
-    match operation {
-        Operation::Get(key) => look(engine, alloc, worker, Operation::Get(key)),
-        Operation::Item(index) => look(engine, alloc, worker, Operation::Item(index)),
-        Operation::Has(key) => look(engine, alloc, worker, Operation::Has(key)),
-        Operation::Set(_) | Operation::Append(_) => false,
-        Operation::Add(_) | Operation::Discard(_) => false,
-    }
-}
-
-/// Makes one operation, and counts it: by a look where it reads and isn't contended. Each kind of operation makes its
-/// call at a place of its own.
-#[inline(always)]
-fn make_known<R: Wait>(
-    rt: &R,
-    engine: &Engine,
-    alloc: Global,
-    worker: &mut Worker,
-    operation: Operation,
-)
-    requires { IsReadyCaller engine.now worker.old.caller }
-    ensures { IsReadyCaller engine.now worker.new.caller }
-{
-    if !make_looked(engine, alloc, worker, operation) {
-        make_called(rt, engine, alloc, worker, operation);
-    }
-}
-
-/// The same, with all calls made at one place.
-#[inline(never)]
-fn make_shared<R: Wait>(
-    rt: &R,
-    engine: &Engine,
-    alloc: Global,
-    worker: &mut Worker,
-    operation: Operation,
-)
-    requires { IsReadyCaller engine.now worker.old.caller }
-    ensures { IsReadyCaller engine.now worker.new.caller }
-{
-    if !look(engine, alloc, worker, operation) {
-        call(rt, engine, alloc, worker, operation);
-    }
-}
-
 /// Makes one operation, and counts it.
-#[inline(always)]
 pub(crate) fn make<R: Wait>(
     rt: &R,
     engine: &Engine,
     alloc: Global,
     worker: &mut Worker,
-    site: Site,
     operation: Operation,
 )
     requires { IsReadyCaller engine.now worker.old.caller }
     ensures { IsReadyCaller engine.now worker.new.caller }
 {
-    match site {
-        Site::Known => make_known(rt, engine, alloc, worker, operation),
-        Site::Shared => make_shared(rt, engine, alloc, worker, operation),
+    match worker.tally.site {
+        Site::Dict => OnDict.make(rt, engine, alloc, worker, operation),
+        Site::List => OnList.make(rt, engine, alloc, worker, operation),
+        Site::Set => OnSet.make(rt, engine, alloc, worker, operation),
+        Site::Shared => AtOnePlace.make(rt, engine, alloc, worker, operation),
     }
 }
 
 /// Makes the next operation. Says whether it appended an item.
 #[inline(always)]
-fn make_next<R: Wait>(
+fn make_next<R: Wait, O: Operator>(
     rt: &R,
     engine: &Engine,
     alloc: Global,
     worker: &mut Worker,
-    site: Site,
+    operator: &O,
 ) -> bool
     requires { IsReadyCaller engine.now worker.old.caller }
     ensures { IsReadyCaller engine.now worker.new.caller }
@@ -216,29 +72,28 @@ fn make_next<R: Wait>(
     let Some(operation) = worker.tally.next_operation() else {
         return false;
     };
-    make(rt, engine, alloc, worker, site, operation);
+    operator.make(rt, engine, alloc, worker, operation);
     matches!(operation, Operation::Append(_))
 }
 
-/// Makes the next operations at this site, that many of them.
-#[inline(always)]
-fn make_some_at<R: Wait>(
+/// Makes the next operations by this operator, that many of them.
+fn make_some_by<R: Wait, O: Operator>(
     rt: &R,
     engine: &Engine,
     alloc: Global,
     worker: &mut Worker,
-    site: Site,
+    operator: &O,
     count: u32,
 )
     requires { IsReadyCaller engine.now worker.old.caller }
     ensures { IsReadyCaller engine.now worker.new.caller }
 {
     for _ in 0..count {
-        make_next(rt, engine, alloc, worker, site);
+        make_next(rt, engine, alloc, worker, operator);
     }
 }
 
-/// Makes the next operations, that many of them. The site is known in each of the loops.
+/// Makes the next operations, that many of them: the operator is known in each of the loops.
 pub(crate) fn make_some<R: Wait>(
     rt: &R,
     engine: &Engine,
@@ -250,8 +105,10 @@ pub(crate) fn make_some<R: Wait>(
     ensures { IsReadyCaller engine.now worker.new.caller }
 {
     match worker.tally.site {
-        Site::Known => make_some_at(rt, engine, alloc, worker, Site::Known, count),
-        Site::Shared => make_some_at(rt, engine, alloc, worker, Site::Shared, count),
+        Site::Dict => make_some_by(rt, engine, alloc, worker, &OnDict, count),
+        Site::List => make_some_by(rt, engine, alloc, worker, &OnList, count),
+        Site::Set => make_some_by(rt, engine, alloc, worker, &OnSet, count),
+        Site::Shared => make_some_by(rt, engine, alloc, worker, &AtOnePlace, count),
     }
 }
 
@@ -276,20 +133,37 @@ fn make_for<R: Wait + Clock>(
     }
 }
 
-/// Makes operations until that many items have been appended, and at most a hundred for each of these.
-fn make_appends<R: Wait>(rt: &R, engine: &Engine, alloc: Global, worker: &mut Worker, appends: u32)
+/// Makes operations by this operator until that many items have been appended, and at most a hundred for each of these.
+fn make_appends_by<R: Wait, O: Operator>(
+    rt: &R,
+    engine: &Engine,
+    alloc: Global,
+    worker: &mut Worker,
+    operator: &O,
+    appends: u32,
+)
     requires { IsReadyCaller engine.now worker.old.caller }
     ensures { IsReadyCaller engine.now worker.new.caller }
 {
-    let site = worker.tally.site;
     let mut left = appends;
     for _ in 0..appends.saturating_mul(100) {
         if left == 0 {
             return;
         }
-        if make_next(rt, engine, alloc, worker, site) {
+        if make_next(rt, engine, alloc, worker, operator) {
             left = left.saturating_sub(1);
         }
+    }
+}
+
+/// Makes operations until that many items have been appended: the operator is known in each of the loops.
+fn make_appends<R: Wait>(rt: &R, engine: &Engine, alloc: Global, worker: &mut Worker, appends: u32)
+    requires { IsReadyCaller engine.now worker.old.caller }
+    ensures { IsReadyCaller engine.now worker.new.caller }
+{
+    match worker.tally.site {
+        Site::List => make_appends_by(rt, engine, alloc, worker, &OnList, appends),
+        _ => make_appends_by(rt, engine, alloc, worker, &AtOnePlace, appends),
     }
 }
 

@@ -48,15 +48,21 @@ fn nanos_of(word: &str) -> Option<u64> {
     Some(all.saturating_mul(1_000_000))
 }
 
-/// The run that these words ask for, with its calls made there.
-fn plan_of(words: &[String], site: Site) -> Option<Plan> {
+/// The run that these words ask for, with all calls made at one place, or with those of each kind at a place of their own.
+fn plan_of(words: &[String], shared: bool) -> Option<Plan> {
     let (name, threads, nanos) = match words {
         [name, threads] => (name, threads, USUAL),
         [name, threads, seconds] => (name, threads, nanos_of(seconds.as_str())?),
         _ => return None,
     };
+    let workload = workload_of(name.as_str())?;
+    let site = if shared {
+        Site::Shared
+    } else {
+        workload.site()
+    };
     Some(Plan {
-        workload: workload_of(name.as_str())?,
+        workload,
         site,
         threads: threads.parse::<u32>().ok()?,
         nanos,
@@ -68,10 +74,8 @@ fn order_of(words: &[String]) -> Option<Order> {
     match words {
         [] | [_] => Some(Order::All),
         [_, word] if word.as_str() == "list" => Some(Order::List),
-        [_, word, rest @ ..] if word.as_str() == "any" => {
-            Some(Order::One(plan_of(rest, Site::Shared)?))
-        }
-        [_, rest @ ..] => Some(Order::One(plan_of(rest, Site::Known)?)),
+        [_, word, rest @ ..] if word.as_str() == "any" => { Some(Order::One(plan_of(rest, true)?)) }
+        [_, rest @ ..] => Some(Order::One(plan_of(rest, false)?)),
     }
 }
 

@@ -97,7 +97,12 @@ impl Tally {
     pub(crate) fn count(&mut self, operation: Operation, reply: &Option<Reply>) {
         match reply {
             Some(reply) => self.count_reply(operation, reply),
-            None => self.wrong = self.wrong.saturating_add(1),
+            None => self.count_none(),
         }
+    }
+
+    /// Counts an operation that couldn't be made.
+    pub(crate) fn count_none(&mut self) {
+        self.wrong = self.wrong.saturating_add(1);
     }
 }

@@ -1,5 +1,7 @@
 //! The workloads: what the threads of a run call.
 
+use crate::plan::Site;
+
 /// A workload. In each, a thread's stream of numbers says which operations it makes.
 #[derive(Clone, Copy, Debug, PartialEq, Eq)]
 pub enum Workload {
@@ -47,6 +49,16 @@ impl Workload {
             Workload::Set(25) => "F",
             Workload::Set(_) => "F90",
             Workload::Script => "G",
+        }
+    }
+
+    /// Where its calls are made by the methods for them.
+    pub(crate) fn site(self) -> Site {
+        match self {
+            Workload::Dict(_) | Workload::Growth(_) => Site::Dict,
+            Workload::List(_) => Site::List,
+            Workload::Set(_) => Site::Set,
+            Workload::Script => Site::Shared,
         }
     }
 

@@ -9,6 +9,8 @@ mod counting;
 mod heaps;
 #[cfg(test)]
 mod merges;
+#[cfg(test)]
+mod moves;
 mod seeing;
 mod storing;
 #[cfg(test)]

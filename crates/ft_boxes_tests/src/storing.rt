@@ -27,7 +27,7 @@ pub(crate) fn is_list(bank: &Bank)
 }
 
 /// The reply and the stamp of a call that was made under locks.
-fn made(step: Step) -> Option<(Reply, Stamp)>
+pub(crate) fn made(step: Step) -> Option<(Reply, Stamp)>
     ensures { IfSome result (λ made. step ≡ steps.Done made.0 made.1) }
 {
     match step {
@@ -37,7 +37,7 @@ fn made(step: Step) -> Option<(Reply, Stamp)>
 }
 
 /// Appends an integer to the list. Says whether that was done.
-fn append(bank: &Bank, pass: &mut Pass, integer: i64) -> bool
+pub(crate) fn append(bank: &Bank, pass: &mut Pass, integer: i64) -> bool
     requires list { HasOneList bank.now }
     requires may { IsCaller bank.now pass.old }
     ensures may { IsTrue result → IsCaller bank.now pass.new }

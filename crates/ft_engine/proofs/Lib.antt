@@ -25,5 +25,7 @@ pub mod AtRest
 pub mod ReadContents
 pub mod LookCalls
 pub mod AtOnce
+pub mod MadeCalls
+pub mod MayCalls
 pub mod SoFar
 pub mod AwaitCalls

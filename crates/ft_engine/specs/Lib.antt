@@ -19,4 +19,6 @@ pub mod Presences
 pub mod Resting
 pub mod Contents
 pub mod AtOnce
+pub mod MadeCalls
+pub mod MayCalls
 pub mod Awaiting

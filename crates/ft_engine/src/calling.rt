@@ -10,6 +10,7 @@ ghost use Rattle.ft_engine.specs.Keeping.{WasAnswered};
 ghost use Rattle.ft_engine.specs.SoFar.{IsAnsweredRight};
 ghost use Rattle.ft_engine.specs.OwnAnswers.{HasOwnAnswer};
 
+use crate::at_once::try_at_once;
 use crate::attempts::Tried;
 use crate::caller::Caller;
 use crate::engine::Engine;
@@ -55,7 +56,7 @@ impl Engine {
     /// seen from whatever caller that was so before the first one. Where the lock of a container was found with another
     /// thread, it is waited for first.
     #[inline(never)]
-    fn call_on<R: Wait>(
+    pub(crate) fn call_on<R: Wait>(
         &self,
         rt: &R,
         alloc: Global,
@@ -104,9 +105,10 @@ impl Engine {
             IsAnsweredRight caller.new (entries_with_answer (thread_of caller.old) call.now (last_of result) mine) }
         ensures found_none { MemoryErrorsAreFound (view (pass_of caller.new)) }
     {
-        match self.call_at_once(alloc, caller, call) {
-            Ok(called) => called,
-            Err(found) => self.call_on(rt, alloc, caller, call, found),
+        if !caller.may_at_once(call) {
+            return self.call_in_turn(rt, alloc, caller, call);
         }
+        let step = try_at_once(&self.bank, &mut caller.pass, alloc, call);
+        self.end_at_once(rt, alloc, caller, call, step)
     }
 }

@@ -1,6 +1,7 @@
 //! Tries of calls on dicts.
 ghost use Rattle.std.specs.Prelude.{◌≡◌, ◌<◌, None, List, Option, is_some, true};
 ghost use Rattle.ft_model.specs.declared.call.Call.TheVariants as calls;
+ghost use Rattle.ft_model.specs.declared.call.DictCall.TheVariants as dict;
 ghost use Rattle.ft_model.specs.declared.cursor.Cursor.{Cursor};
 ghost use Rattle.ft_model.specs.declared.script.Kind.TheVariants as kind;
 ghost use Rattle.ft_model.specs.Calls.{cursor_of_dict, other_dict};
@@ -8,7 +9,10 @@ ghost use Rattle.ft_model.specs.Landed.{is_landed_dict};
 ghost use Rattle.ft_trace.specs.Acts.{announces};
 ghost use Rattle.ft_bank.specs.Passes.{shape_of, view, IsPassOf};
 ghost use Rattle.ft_bank.specs.PassSections.{stack_of};
+ghost use Rattle.ft_bank.specs.KeyHashes.{IsKeyIn};
+ghost use Rattle.ft_section.specs.declared.answers.Objects.TheVariants.{One};
 ghost use Rattle.ft_section.specs.Ready.{MayTry};
+ghost use Rattle.ft_engine.specs.Callers.{IsOfKindIn};
 ghost use Rattle.ft_engine.specs.Answering.{IsTryOfCall, IsLookedIfAny};
 ghost use Rattle.ft_engine.specs.Contentions.{may_look};
 ghost use Rattle.ft_table_calls.specs.TriesUnderLocks.{objects_by};
@@ -19,7 +23,7 @@ use ft_bank::{Bank, Pass};
 use ft_dict::{
     DictMaker, ValueSetter, look_eq, look_get, look_getd, look_has, look_items, look_len,
 };
-use ft_model::{Call, DictCall};
+use ft_model::{Call, DictCall, Key, Value};
 use ft_section::{Look, Object, Objects, Step};
 use ft_table_calls::{named_objects, try_under_locks};
 use std::alloc::Global;
@@ -100,7 +104,7 @@ pub(crate) fn look_dict(
 
 /// A call on a dict under its locks; none that makes a cursor.
 #[inline(always)]
-fn try_any_dict(
+pub(crate) fn try_any_dict(
     bank: &Bank,
     pass: &mut Pass,
     alloc: Global,
@@ -122,8 +126,23 @@ fn try_any_dict(
     try_under_locks(bank, pass, &maker, objects, called)
 }
 
-/// A call on a dict under its locks; none that makes a cursor. The call that is made most has an arm of its own, which
-/// knows its call before the lock is taken.
+/// Sets the value at a key of a dict, under its lock: the call is known before the lock is taken.
+#[inline(always)]
+pub(crate) fn try_set(bank: &Bank, pass: &mut Pass, d: Object, key: Key, value: Value) -> Step
+    requires may { MayTry bank.now pass.old (One d) }
+    requires dict { IsOfKindIn (shape_of bank.now) kind.Dict d }
+    requires key { IsKeyIn (shape_of bank.now) key }
+    requires left { 0 < (view pass.old).left }
+    ensures { (hands : List (Option Cursor)) → IsTryOfCall bank.now hands (calls.Dict d (dict.Set key value)) pass.old pass.new result }
+{
+    let known = Call::Dict {
+        container: d,
+        call: DictCall::Set { key, value },
+    };
+    try_under_locks(bank, pass, &ValueSetter, Objects::One(d), &known)
+}
+
+/// A call on a dict under its locks; none that makes a cursor. The call that is made most has an arm of its own.
 #[inline(always)]
 pub(crate) fn try_dict(
     bank: &Bank,
@@ -143,13 +162,7 @@ pub(crate) fn try_dict(
     ensures { (hands : List (Option Cursor)) → IsTryOfCall bank.now hands (calls.Dict d call.now) pass.old pass.new result }
 {
     match *call {
-        DictCall::Set { key, value } => {
-            let known = Call::Dict {
-                container: d,
-                call: DictCall::Set { key, value },
-            };
-            try_under_locks(bank, pass, &ValueSetter, Objects::One(d), &known)
-        }
+        DictCall::Set { key, value } => try_set(bank, pass, d, key, value),
         _ => try_any_dict(bank, pass, alloc, d, call, called),
     }
 }

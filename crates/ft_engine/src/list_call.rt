@@ -2,13 +2,16 @@
 //! locks.
 ghost use Rattle.std.specs.Prelude.{◌≡◌, ◌<◌, List, Option, None, is_some};
 ghost use Rattle.ft_model.specs.declared.call.Call.TheVariants as calls;
+ghost use Rattle.ft_model.specs.declared.call.ListCall.TheVariants as list;
 ghost use Rattle.ft_model.specs.declared.cursor.Cursor.{Cursor};
 ghost use Rattle.ft_model.specs.declared.script.Kind.TheVariants as kind;
 ghost use Rattle.ft_model.specs.Calls.{cursor_of_list, other_list};
 ghost use Rattle.ft_trace.specs.Acts.{announces};
 ghost use Rattle.ft_bank.specs.Passes.{shape_of, view, IsPassOf};
 ghost use Rattle.ft_bank.specs.PassSections.{stack_of};
+ghost use Rattle.ft_section.specs.declared.answers.Objects.TheVariants.{One};
 ghost use Rattle.ft_section.specs.Ready.{MayTry};
+ghost use Rattle.ft_engine.specs.Callers.{IsOfKindIn};
 ghost use Rattle.ft_engine.specs.Answering.{IsTryOfCall, IsLookedIfAny};
 ghost use Rattle.ft_engine.specs.Contentions.{may_look};
 ghost use Rattle.ft_table_calls.specs.TriesUnderLocks.{objects_by};
@@ -16,7 +19,7 @@ ghost use Rattle.ft_engine.specs.Asked.{AreOfKindIn};
 
 use ft_bank::{Bank, Pass};
 use ft_list::{Appender, ListMaker, look_eq, look_get, look_has, look_items, look_len};
-use ft_model::{Call, ListCall};
+use ft_model::{Call, ListCall, Value};
 use ft_section::{Look, Object, Objects, Step};
 use ft_table_calls::{named_objects, try_under_locks};
 use std::alloc::Global;
@@ -90,7 +93,7 @@ pub(crate) fn look_list(
 
 /// A call on a list under its locks; none that makes a cursor.
 #[inline(always)]
-fn try_any_list(
+pub(crate) fn try_any_list(
     bank: &Bank,
     pass: &mut Pass,
     alloc: Global,
@@ -110,8 +113,22 @@ fn try_any_list(
     try_under_locks(bank, pass, &maker, objects, called)
 }
 
-/// A call on a list under its locks; none that makes a cursor. The call that is made most has an arm of its own, which
-/// knows its call before the lock is taken.
+/// Appends an item to a list, under its lock: the call is known before the lock is taken.
+#[inline(always)]
+pub(crate) fn try_append(bank: &Bank, pass: &mut Pass, l: Object, value: Value) -> Step
+    requires may { MayTry bank.now pass.old (One l) }
+    requires list { IsOfKindIn (shape_of bank.now) kind.List l }
+    requires left { 0 < (view pass.old).left }
+    ensures { (hands : List (Option Cursor)) → IsTryOfCall bank.now hands (calls.List l (list.Append value)) pass.old pass.new result }
+{
+    let known = Call::List {
+        container: l,
+        call: ListCall::Append { value },
+    };
+    try_under_locks(bank, pass, &Appender, Objects::One(l), &known)
+}
+
+/// A call on a list under its locks; none that makes a cursor. The call that is made most has an arm of its own.
 #[inline(always)]
 pub(crate) fn try_list(
     bank: &Bank,
@@ -129,13 +146,7 @@ pub(crate) fn try_list(
     ensures { (hands : List (Option Cursor)) → IsTryOfCall bank.now hands (calls.List l call.now) pass.old pass.new result }
 {
     match *call {
-        ListCall::Append { value } => {
-            let known = Call::List {
-                container: l,
-                call: ListCall::Append { value },
-            };
-            try_under_locks(bank, pass, &Appender, Objects::One(l), &known)
-        }
+        ListCall::Append { value } => try_append(bank, pass, l, value),
         _ => try_any_list(bank, pass, alloc, l, call, called),
     }
 }

@@ -1,10 +1,12 @@
 //! Looks: calls that read, and are made without a lock.
-ghost use Rattle.std.specs.Prelude.{◌≡◌, ◌<◌, ◌↔◌, IsTrue, List, Option, is_some, true, false};
+ghost use Rattle.std.specs.Prelude.{◌≡◌, ◌≢◌, ◌<◌, ◌↔◌, IsTrue, List, Option, is_some, true, false};
+ghost use Rattle.ft_model.specs.declared.call.Call.{Call as AskedCall};
 ghost use Rattle.ft_model.specs.declared.cursor.Cursor.{Cursor};
 ghost use Rattle.ft_model.specs.declared.entry.Entry.{Entry as NamedEntry};
 ghost use Rattle.ft_trace.specs.Acts.{announces};
 ghost use Rattle.ft_bank.specs.Passes.{shape_of, view, IsPassOf};
 ghost use Rattle.ft_bank.specs.PassSections.{stack_of};
+ghost use Rattle.ft_section.specs.declared.answers.Look.TheVariants as answers;
 ghost use Rattle.ft_engine.specs.Answering.{IsLooked, IsUncontended, IsLookedIfAny};
 ghost use Rattle.ft_engine.specs.Attempts.{MayAttempt, StaysCaller, after_look, flight_looked, entries_with_look};
 ghost use Rattle.ft_engine.specs.Callers.{IsCallerOf, IsIdle, flight_of, pass_of, thread_of};
@@ -90,6 +92,20 @@ impl Caller {
             Look::Done(_, _) => self.made += 1,
             Look::Contended(_, _) => {}
             Look::NoMemory => self.flight = Flight::Refused(*call),
+        }
+    }
+
+    /// Counts the call that a look answered, of a call that asks for no memory.
+    #[inline(always)]
+    pub(crate) fn count_look(&mut self, look: &Look)
+        requires left { self.old.made < self.old.calls }
+        requires memory { look.now ≢ answers.NoMemory }
+        ensures { (called : AskedCall) → self.new ≡ after_look called look.now self.old }
+    {
+        match *look {
+            Look::Done(_, _) => self.made += 1,
+            Look::Contended(_, _) => {}
+            Look::NoMemory => unreachable!(),
         }
     }
 }

@@ -4,7 +4,8 @@ ghost use Rattle.ft_trace.specs.Acts.{announces};
 ghost use Rattle.ft_trace.specs.Addresses.{container_count};
 ghost use Rattle.ft_bank.specs.Passes.{shape_of, view};
 ghost use Rattle.ft_engine.specs.Attempts.{MayAttempt};
-ghost use Rattle.ft_engine.specs.Callers.{IsOfKindIn, bank_of, hands_of, pass_of};
+ghost use Rattle.ft_engine.specs.Callers.{IsIdle, IsOfKindIn, bank_of, hands_of, left_of, pass_of};
+ghost use Rattle.ft_engine.specs.MayCalls.{MayAtElement, MayAtKey, MayOnList};
 ghost use Rattle.ft_dict.specs.DictMaking.{key_of_dict};
 ghost use Rattle.ft_set.specs.SetMaking.{key_of_set};
 ghost use Rattle.ft_engine.specs.Asked.{AreOfKindIn, HasKeyIn, IsCallIn};
@@ -129,5 +130,44 @@ impl Engine {
         caller.comes_next(call)
             && (caller.is_answered()
                 || caller.left() > 0 && caller.fits(call) && self.has_named(caller, call))
+    }
+
+    /// Whether a caller is in no call and has one left, and the container and the key that a call names are there.
+    #[inline(always)]
+    fn may_name(&self, caller: &Caller, kind: Kind, o: Object, key: Option<Key>) -> bool
+        ensures { IsTrue result ↔ (IsIdle caller.now × (0 < left_of caller.now)
+            × IsOfKindIn (shape_of self.now.bank) kind o × HasKeyIn (shape_of self.now.bank) key) }
+    {
+        caller.is_idle() && caller.left() > 0 && self.is_of_kind(kind, o) && self.has_key(key)
+    }
+
+    /// Whether a caller that is online may make the calls that name this dict and this key: no call is in flight, the
+    /// caller has one left, and the dict and the key are there.
+    #[inline(always)]
+    pub fn may_at_key(&self, caller: &Caller, d: Object, key: Key) -> bool
+        requires online { 0 < announces (view (pass_of caller.now)).log }
+        ensures { IsTrue result ↔ (IsIdle caller.now × MayAtKey self.now caller.now d key) }
+    {
+        self.may_name(caller, Kind::Dict, d, Some(key))
+    }
+
+    /// Whether a caller that is online may make the calls that name this list alone: no call is in flight, the caller
+    /// has one left, and the list is there.
+    #[inline(always)]
+    pub fn may_on_list(&self, caller: &Caller, l: Object) -> bool
+        requires online { 0 < announces (view (pass_of caller.now)).log }
+        ensures { IsTrue result ↔ (IsIdle caller.now × MayOnList self.now caller.now l) }
+    {
+        self.may_name(caller, Kind::List, l, None)
+    }
+
+    /// Whether a caller that is online may make the calls that name this set and this element: no call is in flight, the
+    /// caller has one left, and the set and the element are there.
+    #[inline(always)]
+    pub fn may_at_element(&self, caller: &Caller, s: Object, key: Key) -> bool
+        requires online { 0 < announces (view (pass_of caller.now)).log }
+        ensures { IsTrue result ↔ (IsIdle caller.now × MayAtElement self.now caller.now s key) }
+    {
+        self.may_name(caller, Kind::Set, s, Some(key))
     }
 }

@@ -1,13 +1,17 @@
 //! Tries of calls on sets.
 ghost use Rattle.std.specs.Prelude.{◌≡◌, ◌<◌, None, List, Option, is_some};
 ghost use Rattle.ft_model.specs.declared.call.Call.TheVariants as calls;
+ghost use Rattle.ft_model.specs.declared.call.SetCall.TheVariants as set;
 ghost use Rattle.ft_model.specs.declared.cursor.Cursor.{Cursor};
 ghost use Rattle.ft_model.specs.declared.script.Kind.TheVariants as kind;
 ghost use Rattle.ft_model.specs.Calls.{cursor_of_set, other_set};
 ghost use Rattle.ft_trace.specs.Acts.{announces};
 ghost use Rattle.ft_bank.specs.Passes.{shape_of, view, IsPassOf};
 ghost use Rattle.ft_bank.specs.PassSections.{stack_of};
+ghost use Rattle.ft_bank.specs.KeyHashes.{IsKeyIn};
+ghost use Rattle.ft_section.specs.declared.answers.Objects.TheVariants.{One};
 ghost use Rattle.ft_section.specs.Ready.{MayTry};
+ghost use Rattle.ft_engine.specs.Callers.{IsOfKindIn};
 ghost use Rattle.ft_engine.specs.Answering.{IsTryOfCall, IsLookedIfAny};
 ghost use Rattle.ft_engine.specs.Contentions.{may_look};
 ghost use Rattle.ft_table_calls.specs.TriesUnderLocks.{objects_by};
@@ -15,7 +19,7 @@ ghost use Rattle.ft_set.specs.SetMaking.{key_of_set};
 ghost use Rattle.ft_engine.specs.Asked.{AreOfKindIn, HasKeyIn};
 
 use ft_bank::{Bank, Pass};
-use ft_model::{Call, SetCall};
+use ft_model::{Call, Key, SetCall};
 use ft_section::{Look, Object, Objects, Step};
 use ft_set::{ElementMaker, SetMaker, look_eq, look_has, look_items, look_len};
 use ft_table_calls::{named_objects, try_under_locks};
@@ -110,8 +114,39 @@ fn try_any_set(
     try_under_locks(bank, pass, &maker, objects, called)
 }
 
-/// A call on a set under its locks; none that makes a cursor. The calls that are made most have arms of their own,
-/// which know their call before the lock is taken.
+/// Adds an element under the lock of the set: the call is known before the lock is taken.
+#[inline(always)]
+pub(crate) fn try_add(bank: &Bank, pass: &mut Pass, s: Object, key: Key) -> Step
+    requires may { MayTry bank.now pass.old (One s) }
+    requires set { IsOfKindIn (shape_of bank.now) kind.Set s }
+    requires key { IsKeyIn (shape_of bank.now) key }
+    requires left { 0 < (view pass.old).left }
+    ensures { (hands : List (Option Cursor)) → IsTryOfCall bank.now hands (calls.Set s (set.Add key)) pass.old pass.new result }
+{
+    let known = Call::Set {
+        container: s,
+        call: SetCall::Add { key },
+    };
+    try_under_locks(bank, pass, &ElementMaker, Objects::One(s), &known)
+}
+
+/// Discards an element under the lock of the set: the call is known before the lock is taken.
+#[inline(always)]
+pub(crate) fn try_discard(bank: &Bank, pass: &mut Pass, s: Object, key: Key) -> Step
+    requires may { MayTry bank.now pass.old (One s) }
+    requires set { IsOfKindIn (shape_of bank.now) kind.Set s }
+    requires key { IsKeyIn (shape_of bank.now) key }
+    requires left { 0 < (view pass.old).left }
+    ensures { (hands : List (Option Cursor)) → IsTryOfCall bank.now hands (calls.Set s (set.Discard key)) pass.old pass.new result }
+{
+    let known = Call::Set {
+        container: s,
+        call: SetCall::Discard { key },
+    };
+    try_under_locks(bank, pass, &ElementMaker, Objects::One(s), &known)
+}
+
+/// A call on a set under its locks; none that makes a cursor. The calls that are made most have arms of their own.
 #[inline(always)]
 pub(crate) fn try_set_call(
     bank: &Bank,
@@ -130,20 +165,8 @@ pub(crate) fn try_set_call(
     ensures { (hands : List (Option Cursor)) → IsTryOfCall bank.now hands (calls.Set s call.now) pass.old pass.new result }
 {
     match *call {
-        SetCall::Add { key } => {
-            let known = Call::Set {
-                container: s,
-                call: SetCall::Add { key },
-            };
-            try_under_locks(bank, pass, &ElementMaker, Objects::One(s), &known)
-        }
-        SetCall::Discard { key } => {
-            let known = Call::Set {
-                container: s,
-                call: SetCall::Discard { key },
-            };
-            try_under_locks(bank, pass, &ElementMaker, Objects::One(s), &known)
-        }
+        SetCall::Add { key } => try_add(bank, pass, s, key),
+        SetCall::Discard { key } => try_discard(bank, pass, s, key),
         _ => try_any_set(bank, pass, alloc, s, call, called),
     }
 }

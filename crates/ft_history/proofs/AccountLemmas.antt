@@ -1,6 +1,7 @@
 -- What is kept of tables, one write further.
-use Rattle.std.proofs.Common.{◌≡◌, ℕ, zero, suc, ◌+◌, ◌-◌, ◌<◌, true, List, [], ◌∷◌, ◌++◌, map, length, get_or, None, refl, sym, ap, subst, ◌∙◌, arith, cond, inl, inr, replicate}
+use Rattle.std.proofs.Common.{◌≡◌, ℕ, zero, suc, ◌+◌, ◌-◌, ◌<◌, true, false, List, [], ◌∷◌, ◌++◌, map, length, get_or, None, refl, sym, ap, subst, ◌∙◌, arith, cond, inl, inr, replicate}
 use Rattle.std.specs.Prelude.{All, ◌^◌}
+use Rattle.std.specs.Option.{option_map_or}
 use Rattle.std.proofs.lemmas.Bool.{and_parts, false≢true}
 use Rattle.std.proofs.lemmas.List.Elements.{All-head, All-tail}
 use Rattle.std.proofs.lemmas.List.{get_or-replicate, get_or_default}
@@ -34,7 +35,9 @@ use Rattle.ft_model.specs.declared.table.KeptTable.{KeptTable}
 use Rattle.ft_model.specs.Scripts.{cursor_of}
 use Rattle.ft_model.specs.Worlds.{starts_of, start_in, dict_at}
 use Rattle.ft_model.specs.Answers.{after_write, is_memory}
-use Rattle.ft_model.specs.TableUses.{TableUse, no_table, start_table, table_at, StoredWorld, takes_class, leaves_tables, after_stored, stored_after, takings, is_class, is_split, takes_out, can_leave_split, takes, Supply, supply_of, IsEarned, IsEarnedReply, table_count, empty_stored}
+use Rattle.ft_model.specs.Boxings.{boxes, is_boxed, stored_in_dict, stored_in_list, stored_in_deque}
+use Rattle.ft_model.specs.Contents.{DictContent}
+use Rattle.ft_model.specs.TableUses.{TableUse, no_table, start_table, table_at, StoredWorld, takes_class, leaves_tables, after_stored, stored_by, stored_after, takings, is_class, is_split, takes_out, can_leave_split, takes, Supply, supply_of, IsEarned, IsEarnedReply, table_count, empty_stored}
 use Rattle.ft_history.specs.declared.account.TableAccount.{TableAccount}
 use Rattle.ft_history.specs.Internal.Accounts.{tables_of, IsAccount, CountsTaking, CountsCall, plain_takes, plain_leaves, CountsDict}
 
@@ -111,11 +114,33 @@ leaving : (starts : List Start) (called : Call) → can_leave_split starts calle
 leaving starts (call.Dict place dict_call) can = taking_dict dict_call (and_parts (takes_out dict_call) (is_split (start_in starts place).keys) can).0
 leaving starts _ can = absurd (false≢true can)
 
+-- nor does one that puts a value in a box
+boxing_dict : (old : DictContent) (called : DictCall) → option_map_or is_boxed (stored_in_dict old called) false ≡ true → cursor_of_dict called ≡ None
+boxing_dict old (dict.Iter cursor) boxed = absurd (false≢true boxed)
+boxing_dict old (dict.Reversed cursor) boxed = absurd (false≢true boxed)
+boxing_dict old _ boxed = refl
+
+boxing_list : (called : ListCall) → option_map_or is_boxed (stored_in_list called) false ≡ true → cursor_of_list called ≡ None
+boxing_list (list.Iter cursor) boxed = absurd (false≢true boxed)
+boxing_list (list.Reversed cursor) boxed = absurd (false≢true boxed)
+boxing_list _ boxed = refl
+
+boxing_deque : (called : DequeCall) → option_map_or is_boxed (stored_in_deque called) false ≡ true → cursor_of_deque called ≡ None
+boxing_deque (deque.Iter cursor) boxed = absurd (false≢true boxed)
+boxing_deque _ boxed = refl
+
+boxing : (world : List Content) (called : Call) → boxes world called ≡ true → cursor_of called ≡ None
+boxing world (call.Dict place dict_call) boxed = boxing_dict (dict_at world place) dict_call boxed
+boxing world (call.List place list_call) boxed = boxing_list list_call boxed
+boxing world (call.Set place set_call) boxed = absurd (false≢true boxed)
+boxing world (call.Deque place deque_call) boxed = boxing_deque deque_call boxed
+boxing world _ boxed = refl
+
 earned_makes_none : (starts : List Start) (supply : Supply) (calls : List Call) (mine : List Entry) (called : Call) (said : Reply) → IsEarnedReply starts supply calls mine called said → is_memory said ≡ true → cursor_of called ≡ None
 earned_makes_none starts supply calls mine called (reply.Raised (raise.Memory class)) (inl lacks, passes, class_earned) memory = adding called lacks.adds
 earned_makes_none starts supply calls mine called (reply.Raised (raise.Memory class)) (inr leaves, passes, class_earned) memory = leaving starts called leaves.leaves
 earned_makes_none starts supply calls mine called (reply.Raised raise.Over) earned memory = adding called earned.0.adds
-earned_makes_none starts supply calls mine called (reply.Raised raise.Heap) earned memory = absurd (false≢true earned.landed)
+earned_makes_none starts supply calls mine called (reply.Raised raise.Heap) earned memory = boxing (stored_by starts calls).world called earned.boxes
 earned_makes_none starts supply calls mine called _ earned memory = absurd (false≢true memory)
 
 -- a call that raises a MemoryError makes no cursor

@@ -21,15 +21,18 @@ use Rattle.ft_model.specs.declared.reply.Raise.TheVariants as raise
 use Rattle.ft_model.specs.declared.script.Declaration.{Declaration}
 use Rattle.ft_model.specs.declared.script.Thread.{Thread}
 use Rattle.ft_model.specs.declared.script.ScriptParts.{ScriptParts}
-use Rattle.ft_model.specs.Answers.{after_write, is_memory}
+use Rattle.ft_model.specs.Answers.{after_write, is_memory, world_by}
+use Rattle.ft_model.specs.Boxings.{boxes, boxings}
 use Rattle.ft_model.specs.Calls.{adds, can_add, dict_change, list_change, set_change, deque_change}
 use Rattle.ft_model.specs.Histories.{calls_of, entries_of, writes, IsLegal, IsWhole}
 use Rattle.ft_model.specs.TableUses.{StoredWorld, TableUse, after_stored, can_leave_split, change_leaves, change_takes, copy_leaves, copy_takes, grown_table, is_class, is_split, leaves_tables, no_table, start_table, supply_of, table_at, taken, takes, takes_class, takes_in, takes_out, takings, IsEarnedReply}
 use Rattle.ft_history.proofs.AccountLemmas.{start_stored}
 use Rattle.ft_model.specs.Scripts.{IsScript}
 use Rattle.ft_model.proofs.SplitDicts.{unsplit_takes, unsplit_leaves}
+use Rattle.ft_model.proofs.StoredLaws.{stored_world}
 use Rattle.ft_model.specs.Worlds.{starts_of, start_in, dict_at, set_at}
-use Rattle.ft_history.specs.EnoughTables.{adding_calls, HasEnoughTables, StaysWithinCaps}
+use Rattle.ft_history.specs.EnoughTables.{adding_calls, HasEnoughPlaces, HasEnoughTables, StaysWithinCaps}
+use Rattle.ft_history.proofs.EnoughPlaces.{one_more_box}
 use Rattle.ft_history.proofs.ScriptLemmas.{unsplit_start}
 use Rattle.ft_history.proofs.FewEntries.{all_counted, length-entries_of, sum_le, sum_places, threads_low}
 
@@ -183,7 +186,7 @@ module _ (script : ScriptParts) (history : List Entry) (whole : IsWhole script h
 
 -- ---- no MemoryError
 
-module _ (script : ScriptParts) (history : List Entry) (rule : IsScript script) (legal : IsLegal storage.Tables script history) (enough : HasEnoughTables script) (within : StaysWithinCaps script history) where
+module _ (script : ScriptParts) (history : List Entry) (rule : IsScript script) (legal : IsLegal storage.Tables script history) (enough : HasEnoughTables script) (within : StaysWithinCaps script history) (places : HasEnoughPlaces script history) where
   -- the call itself can add, and isn't one of the writes before it
   few_before : (place : ℕ) (entry : Entry) → slice_get history place ≡ Some entry → can_add entry.call ≡ true → count_by can_add (writes (take place history)) + 1 ≤ adding_calls script
   few_before place entry at can =
@@ -213,7 +216,13 @@ module _ (script : ScriptParts) (history : List Entry) (rule : IsScript script) 
           absurd (omega (arith, few, took, all, most, some_thread))
       of_reply (reply.Raised (raise.Memory class)) (inr leaves, passes, cause) = absurd (never_leaves script.containers (unsplit_start script rule) entry.call leaves.leaves)
       of_reply (reply.Raised raise.Over) earned = absurd (false≢true (sym (within place entry at earned.0) ∙ earned.1))
-      of_reply (reply.Raised raise.Heap) earned = absurd (false≢true earned.landed)
+      of_reply (reply.Raised raise.Heap) earned =
+          let calls = writes (take place history) in
+          let world = stored_world (starts_of script.containers) calls in
+          let boxed : boxes (world_by (starts_of script.containers) calls) entry.call ≡ true = ap (λ (w : List Content). boxes w entry.call) (sym world) ∙ earned.boxes in
+          let more = one_more_box script history legal.chronicle.answered place entry at boxed in
+          let used : script.heap ≤ boxings (starts_of script.containers) calls (entries_of entry.thread (take place history)) = earned.all_used in
+          absurd (omega (arith, more, used, places entry.thread))
       of_reply (reply.Raised raise.NoKey) earned = refl
       of_reply (reply.Raised raise.NoIndex) earned = refl
       of_reply (reply.Raised raise.NoValue) earned = refl

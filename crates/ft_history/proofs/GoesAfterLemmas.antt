@@ -22,6 +22,7 @@ use Rattle.ft_model.specs.Calls.{is_changing, containers_of}
 use Rattle.ft_model.specs.Scripts.{IsScript, IsCallOf, AreMade, cursor_of}
 use Rattle.ft_model.specs.Worlds.{start_world, starts_of, kind_of}
 use Rattle.ft_model.specs.Answers.{answer, after_write, is_memory, is_raised, is_write}
+use Rattle.ft_model.specs.Boxings.{boxes}
 use Rattle.ft_model.specs.Histories.{writes, world_at, hands_at, calls_of, cursors_of, names, is_marked, IsReplied}
 use Rattle.ft_model.specs.Judging.{IsNext, IsStamped, HasRightReply, Holds}
 use Rattle.ft_history.specs.declared.progress.ThreadProgress.{ThreadProgress}
@@ -165,6 +166,7 @@ module _ (script : ScriptParts) (is_script : IsScript script) (entries : List En
     new_progress : IsProgress script entries entry.thread (place + 1) after
     new_progress =
         progress_mine script entries place entry at before after so_far stamped.stamp (named_within script.containers (cursors_of script entry.thread) entry.call its_call.names) goes.made goes.marks
+        (goes.boxed ∙ ap (λ (world : List Content). before.boxed + cond (entry.wrote && boxes world entry.call) 1 0) is_state.world)
         (goes.hands ∙ ap (λ (world : List Content). cond (is_memory entry.reply) before.hands (answer world before.hands entry.call).hands) is_state.world) goes.sections
 
     new_hands : AreHandsOf script entry.thread after.made after.hands

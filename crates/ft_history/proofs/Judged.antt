@@ -1,5 +1,5 @@
 -- What the judge's tests say of the rules.
-use Rattle.std.proofs.Common.{◌≡◌, ◌↔◌, IsTrue, ℕ, ◌+◌, ◌≤◌, Bool, List, length, take, Some, sym, ap, subst, ◌∙◌, arith, inl, inr, ◌==◌}
+use Rattle.std.proofs.Common.{◌≡◌, ◌↔◌, IsTrue, ℕ, ◌+◌, ◌≤◌, Bool, List, [], ◌++◌, length, take, Some, sym, ap, subst, ◌∙◌, arith, inl, inr, ◌==◌}
 use Rattle.std.specs.Prelude.{slice_get}
 use Rattle.std.proofs.lemmas.Bool.{cases_lt}
 use Rattle.std.proofs.lemmas.List.{length-take-le}
@@ -11,9 +11,12 @@ use Rattle.ft_model.specs.declared.entry.Storage.{Storage}
 use Rattle.ft_model.specs.declared.script.Thread.{Thread}
 use Rattle.ft_model.specs.declared.script.ScriptParts.{ScriptParts}
 use Rattle.ft_model.specs.Answers.{is_write}
+use Rattle.ft_model.specs.Boxings.{has_boxed}
 use Rattle.ft_model.specs.Histories.{writes, calls_of, entries_of}
 use Rattle.ft_model.specs.Judging.{IsNext, IsStamped, Holds, rank_of}
 use Rattle.ft_history.specs.declared.progress.ThreadProgress.{ThreadProgress}
+use Rattle.ft_model.specs.Worlds.{starts_of}
+use Rattle.ft_history.specs.Internal.States.{HasBoxed}
 use Rattle.ft_history.specs.Internal.Steps.{HoldsFirst}
 use Rattle.ft_history.proofs.OneVerdict.{same_rule}
 
@@ -50,3 +53,8 @@ stamped_iff entries place entry count r is_count is = (λ yes. record { stamp = 
 -- a thread makes no more calls than there are entries
 pub few_made : (entries : List Entry) (place thread : ℕ) → place ≤ length entries → length (entries_of thread (take place entries)) ≤ place
 few_made entries place thread within = omega (arith, length-filter (λ (e : Entry). e.thread == thread) (take place entries), count_by-le-length (λ (e : Entry). e.thread == thread) (take place entries), length-take-le place entries within)
+
+-- nor more that put a value in a box
+pub few_boxed : (script : ScriptParts) (entries : List Entry) (place thread boxed : ℕ) → place ≤ length entries → HasBoxed script entries thread place boxed → boxed ≤ place
+few_boxed script entries place thread boxed within has =
+    omega (arith, has [], count_by-le-length (has_boxed (starts_of script.containers) (writes (take place entries) ++ [])) (entries_of thread (take place entries)), few_made entries place thread within)

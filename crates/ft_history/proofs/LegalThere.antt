@@ -168,7 +168,6 @@ earned_told starts supply written mine called (reply.Raised (raise.Memory class)
 )
 earned_told starts supply written mine called (reply.Raised raise.Over) twice = (lack_told _ called (λ no. twice (λ x. no x.0)), true_told _ (λ no. twice (λ x. no x.1)))
 earned_told starts supply written mine called (reply.Raised raise.Heap) twice = record {
-  landed = true_told _ (λ no. twice (λ x. no x.landed));
   boxes = true_told _ (λ no. twice (λ x. no x.boxes));
   raises_nothing = false_told _ (λ no. twice (λ x. no x.raises_nothing));
   passes_nothing = false_told _ (λ no. twice (λ x. no x.passes_nothing));

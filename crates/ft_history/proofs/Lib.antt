@@ -40,4 +40,5 @@ pub mod UpdatedDicts
 pub mod VerdictLemmas
 pub mod WriteNumbers
 pub mod FewEntries
+pub mod EnoughPlaces
 pub mod EnoughTables

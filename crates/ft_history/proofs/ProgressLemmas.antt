@@ -3,7 +3,8 @@ use Rattle.std.proofs.Common.{◌≡◌, ◌≢◌, ℕ, ◌+◌, ◌<◌, ◌&&
 use Rattle.std.specs.Prelude.{slice_get, is_some, All}
 use Rattle.std.specs.List.{fold, count_by, AllByRecursion}
 use Rattle.std.proofs.lemmas.Bool.{eq-eqb, ne_eqb}
-use Rattle.std.proofs.lemmas.List.{append-nil, length_push, drop-map}
+use Rattle.std.proofs.Math.Seq.{take-append_seam}
+use Rattle.std.proofs.lemmas.List.{append-nil, append_assoc, length_push, drop-map}
 use Rattle.std.proofs.lemmas.List.Sums.{sum_by_push, fold_push}
 use Rattle.ft_model.specs.declared.call.Call.{Call}
 use Rattle.ft_model.specs.declared.call.Call.TheVariants as call
@@ -12,11 +13,12 @@ use Rattle.ft_model.specs.declared.entry.Entry.{Entry}
 use Rattle.ft_model.specs.declared.script.ScriptParts.{ScriptParts}
 use Rattle.ft_model.specs.Calls.{containers_of}
 use Rattle.ft_model.specs.Worlds.{start_hands, starts_of}
-use Rattle.ft_model.specs.Answers.{answer, is_memory}
+use Rattle.ft_model.specs.Answers.{answer, is_memory, world_by}
+use Rattle.ft_model.specs.Boxings.{boxes, boxings, has_boxed}
 use Rattle.ft_model.specs.Histories.{entries_of, cursors_of, after_stamped, hands_at, is_marked, sections_at, after_section, world_at, writes}
 use Rattle.ft_history.specs.declared.progress.ThreadProgress.{ThreadProgress}
-use Rattle.ft_history.specs.Internal.States.{world_before, BegunSection, all_begun, after_begun, section_of, IsOpen, IsProgress}
-use Rattle.ft_history.proofs.HistoryPlaces.{take_next, filter_next, world_at-before}
+use Rattle.ft_history.specs.Internal.States.{world_before, BegunSection, all_begun, after_begun, section_of, HasBoxed, IsOpen, IsProgress}
+use Rattle.ft_history.proofs.HistoryPlaces.{take_next, filter_next, world_at-before, writes_next}
 use Rattle.ft_history.proofs.SectionWrites.{sections_next}
 
 -- those that an entry of a history leaves
@@ -82,10 +84,43 @@ module _ (script : ScriptParts) (entries : List Entry) (place : ℕ) (entry : En
       ∙ fold_push (after_entry script entries) (start_hands (cursors_of script entry.thread)) (entries_of entry.thread (take place entries)) entry
       ∙ ap (λ world. cond (is_memory entry.reply) hands (answer world hands entry.call).hands) (ap (world_at script entries) stamp ∙ world_at-before script entries place)
 
+  -- the calls of the writes before the next place, and any that follow
+  writes_later : (later : List Call) → writes (take place entries) ++ cond entry.wrote (entry.call ∷ []) [] ++ later ≡ writes (take (place + 1) entries) ++ later
+  writes_later later = ap (λ (cs : List Call). cs ++ later) (sym (writes_next entries place entry at))
+
+  pub boxed_other : (thread boxed : ℕ) → (entry.thread ≢ thread) → HasBoxed script entries thread place boxed → HasBoxed script entries thread (place + 1) boxed
+  boxed_other thread boxed other has = λ later.
+      let starts = starts_of script.containers in
+      let done = writes (take place entries) in
+      let more : List Call = cond entry.wrote (entry.call ∷ []) [] in
+      has (more ++ later)
+      ∙ ap (λ (cs : List Call). boxings starts cs (entries_of thread (take place entries))) (sym (append_assoc done more later) ∙ writes_later later)
+      ∙ ap (boxings starts (writes (take (place + 1) entries) ++ later)) (sym (entries_of_other thread other))
+
+  pub boxed_mine : (before after : ℕ) → HasBoxed script entries entry.thread place before → entry.stamp ≡ length (writes (take place entries)) → after ≡ before + cond (entry.wrote && boxes (world_before script entries place) entry.call) 1 0 → HasBoxed script entries entry.thread (place + 1) after
+  boxed_mine before after has stamp goes = λ later.
+      let starts = starts_of script.containers in
+      let done = writes (take place entries) in
+      let mine = entries_of entry.thread (take place entries) in
+      let more : List Call = cond entry.wrote (entry.call ∷ []) [] in
+      let rest : List Call = more ++ later in
+      let all : List Call = done ++ rest in
+      let same : all ≡ writes (take (place + 1) entries) ++ later = sym (append_assoc done more later) ∙ writes_later later in
+      let here : take entry.stamp all ≡ done = ap (λ n. take n all) stamp ∙ take-append_seam done rest in
+      let this : cond {A = ℕ} (has_boxed starts all entry) 1 0 ≡ cond (entry.wrote && boxes (world_before script entries place) entry.call) 1 0 =
+      ap (λ (cs : List Call). cond {A = ℕ} (entry.wrote && boxes (world_by starts cs) entry.call) 1 0) here in
+      let pushed : boxings starts all (mine ++ entry ∷ []) ≡ boxings starts all mine + cond {A = ℕ} (has_boxed starts all entry) 1 0 =
+      sum_by_push (λ (e : Entry). cond (has_boxed starts all e) 1 0) mine entry in
+      let count : after ≡ boxings starts all (mine ++ entry ∷ []) = omega (arith, goes, has rest, this, pushed) in
+      count
+      ∙ ap (λ (cs : List Call). boxings starts cs (mine ++ entry ∷ [])) same
+      ∙ ap (boxings starts (writes (take (place + 1) entries) ++ later)) (sym entries_of_mine)
+
   pub progress_other : (thread : ℕ) (progress : ThreadProgress) → (entry.thread ≢ thread) → IsProgress script entries thread place progress → IsProgress script entries thread (place + 1) progress
   progress_other thread progress other so_far =
       record {
         made = so_far.made ∙ ap length (sym (entries_of_other thread other));
+        boxed = boxed_other thread progress.boxed other so_far.boxed;
         marks = so_far.marks ∙ sym (marks_next thread ∙ ap (λ b. count_by (is_marked thread) (take place entries) + cond (b && is_some entry.waited) 1 0) (ne_eqb entry.thread thread other) ∙ omega arith);
         hands = so_far.hands ∙ ap (fold (after_entry script entries) (start_hands (cursors_of script thread))) (sym (entries_of_other thread other));
         sections = sections_other thread other ∙ so_far.sections;
@@ -94,15 +129,17 @@ module _ (script : ScriptParts) (entries : List Entry) (place : ℕ) (entry : En
 
   pub progress_mine : (old new : ThreadProgress) → IsProgress script entries entry.thread place old → entry.stamp ≡ length (writes (take place entries)) → All (λ which. which < length script.containers) (containers_of entry.call)
       → new.made ≡ old.made + 1 → new.marks ≡ old.marks + cond (is_some entry.waited) 1 0
+      → new.boxed ≡ old.boxed + cond (entry.wrote && boxes (world_before script entries place) entry.call) 1 0
       → new.hands ≡ cond (is_memory entry.reply) old.hands (answer (world_before script entries place) old.hands entry.call).hands
       → all_begun new.sections.items ≡ after_begun place new.marks entry.call (all_begun old.sections.items)
       → IsProgress script entries entry.thread (place + 1) new
-  progress_mine old new so_far stamp containers made marks hands sections =
+  progress_mine old new so_far stamp containers made marks boxed hands sections =
       let count : new.marks ≡ count_by (is_marked entry.thread) (take (place + 1) entries) =
       marks ∙ ap (λ n. n + cond (is_some entry.waited) 1 0) so_far.marks ∙ sym (marks_next entry.thread ∙ ap (λ b. count_by (is_marked entry.thread) (take place entries) + cond (b && is_some entry.waited) 1 0) (eq-eqb entry.thread entry.thread refl)) in
       record {
         made = made ∙ ap (λ n. n + 1) so_far.made ∙ sym (ap length entries_of_mine ∙ length_push (entries_of entry.thread (take place entries)) entry);
         marks = count;
+        boxed = boxed_mine old.boxed new.boxed so_far.boxed stamp boxed;
         hands = hands ∙ ap (λ (hs : List (Option Cursor)). cond (is_memory entry.reply) hs (answer (world_before script entries place) hs entry.call).hands) so_far.hands ∙ sym (hands_mine stamp);
         sections = sections_mine ∙ ap (after_section place entry.call) so_far.sections ∙ sym (ap (map section_of) sections ∙ sections_alike place new.marks entry.call (all_begun old.sections.items));
         «open» = subst (AllByRecursion (IsOpen script entries entry.thread (place + 1))) (sym sections) (open_after script entries entry.thread place new.marks entry.call (all_begun old.sections.items) count containers so_far.«open»);

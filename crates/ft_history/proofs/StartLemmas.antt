@@ -42,6 +42,7 @@ module _ (script : ScriptParts) (entries : List Entry) (thread : ℕ) (found : T
       record {
         made = fresh.made;
         marks = fresh.marks;
+        boxed = λ later. fresh.boxed;
         hands = fresh.hands ∙ ap start_hands (sym (ap (λ (o : Option Thread). option_map_or (λ (f : Thread). length f.cursors) o 0) at));
         sections = sym (ap (map section_of) none);
         «open» = subst (AllByRecursion (IsOpen script entries thread 0)) (sym none) tt;

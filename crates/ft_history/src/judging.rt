@@ -180,13 +180,17 @@ fn has_awaited(state: &State, entry: &Entry) -> bool
 
 /// Whether the reply is a MemoryError where one is due, and nowhere without cause.
 fn has_cause(storage: Storage, parts: &ScriptParts, state: &State, entry: &Entry) -> bool
+    requires thread { entry.now.thread < vec_len state.now.threads }
     requires kinds { AreOfKind state.now.world entry.now.call }
     requires unsplit { All (λ container. container.start.keys ≡ []) parts.now.containers }
     ensures { (entries : List Entry) (place : ℕ) → IsState parts.now entries place state.now → IsTrue result ↔ IsEarnedAt storage parts.now entries place entry.now }
 {
     match storage {
         Storage::Plain => !is_memory_error(&entry.reply),
-        Storage::Tables => is_earned(parts, &state.world, &state.account, entry),
+        Storage::Tables => {
+            let boxed = state.threads[entry.thread as usize].boxed;
+            is_earned(parts, &state.world, &state.account, boxed, entry)
+        }
     }
 }
 
@@ -195,7 +199,7 @@ fn go_after(alloc: Global, state: &mut State, place: u64, entry: &Entry) -> Resu
     requires thread { entry.now.thread < vec_len state.old.threads }
     requires askable { (progress : ThreadProgress) → slice_get state.old.threads.items entry.now.thread ≡ Some progress → IsAskable state.old.world progress.hands entry.now.call }
     requires room { (progress : ThreadProgress) → slice_get state.old.threads.items entry.now.thread ≡ Some progress → IsDeclared state.old.world progress.hands entry.now.call → HasRoom state.old.world entry.now.call }
-    requires few { (progress : ThreadProgress) → slice_get state.old.threads.items entry.now.thread ≡ Some progress → (progress.made < 2 ^ 63) × (progress.marks < 2 ^ 63) }
+    requires few { (progress : ThreadProgress) → slice_get state.old.threads.items entry.now.thread ≡ Some progress → (progress.made < 2 ^ 63) × (progress.marks < 2 ^ 63) × (progress.boxed < 2 ^ 63) }
     requires writes { state.old.writes < 2 ^ 63 }
     requires containers { All (λ container. container < vec_len state.old.containers) (containers_of entry.now.call) }
     requires account { vec_len state.old.account.takings ≡ class_count }

@@ -54,6 +54,7 @@ fn start_threads(alloc: Global, threads: &[Thread]) -> Result<Vec<ThreadProgress
         all.push(ThreadProgress {
             made: 0,
             marks: 0,
+            boxed: 0,
             hands: Hands::start(alloc, thread.cursors.len())?,
             sections: Vec::new(alloc),
         })?;

@@ -40,7 +40,8 @@ use Rattle.ft_list.proofs.LookRounds.{slots_are}
 use Rattle.ft_list.proofs.Wanted.{list_use, wanted_some}
 use Rattle.ft_list.proofs.WholeListWrites.{grows_from}
 use Rattle.ft_search.proofs.Changing.{no_keys}
-use Rattle.ft_search.proofs.Puts.{done_then}
+use Rattle.ft_search.proofs.Puts.{few_done, few_same}
+use Rattle.ft_bank.proofs.DoneBoxes.{stays_settled_same}
 
 module _ (k : Shape) (o : ℕ) (old : Option Table) (v : View) (list : KnowsList k o old v) (shape : v.shape ≡ k) (possible : ∥ IsReachable v ∥₁) (lc : ListCall) (total : ℕ) (news : List Value) (adds : Adds o lc (known_items o v) news v) (long : length news ≡ total) where
   abbrev values : List Value
@@ -99,6 +100,16 @@ module _ (k : Shape) (old : Option Table) (table : Table) (class total : ℕ) (f
       let h = holds in
       omega (arith, same, less, h)
 
+  -- with room for more
+  pub taken_wider : ((t : Table) → old ≡ Some t → IsTableIn k t) → (t : Table) → old ≡ Some t → slots (class_of (table_id t)) ≤ slots (class_of (table_id table))
+  taken_wider tables t is =
+      let s = slots_are k table table_in in
+      let r = slots_are k t (tables t is) in
+      let same : list_items table.class ≡ list_items class = ap list_items of_class in
+      let less = is_wanted.1 t is in
+      let h = holds in
+      omega (arith, s, r, same, less, h)
+
   pub taken_root : ((t : Table) → old ≡ Some t → IsTableIn k t) → root_for old ≢ suc (table_id table)
   taken_root tables e = at old refl e
     where
@@ -153,7 +164,8 @@ module _ (F : ℕ → Type 0) (v u : View) (same : SamePass v u) (keeps : KeepsB
     owed = owed ∙ ap suc (sym (class_is table table_in.2 ∙ of_class));
     fresh = fresh;
     table_in = table_in;
-    boxes = done_then k v u shape same.shape keeps.boxes.references keeps.boxes.made may.boxes;
+    settled = (stays_settled_same v u keeps.boxes.made).settled may.boxes.settled;
+    few = few_same v u keeps.boxes.references (few_done k v shape may.boxes);
     left = subst (λ (n : ℕ). 0 < n) (sym keeps.held.left) may.left;
   }
 

@@ -17,7 +17,7 @@ use Rattle.ft_trace.specs.declared.Shape.{Shape}
 use Rattle.ft_trace.specs.declared.View.{View}
 use Rattle.ft_trace.specs.Acts.{has_lock, is_writing, mem, view_after, stage}
 use Rattle.ft_trace.specs.Addresses.{container_count, class_of, slots}
-use Rattle.ft_trace.specs.Holds.{held_unboxed, known_state, in_hand, hand_unboxed}
+use Rattle.ft_trace.specs.Holds.{held_words, held_unboxed, known_state, in_hand, hand_unboxed}
 use Rattle.ft_trace.specs.Kinds.{rows, version_at, SoundAs}
 use Rattle.ft_trace.specs.OddVersions.{Shut}
 use Rattle.ft_trace.specs.Traces.{IsReachable}
@@ -36,10 +36,11 @@ use Rattle.ft_list.proofs.Cares.{table_class}
 use Rattle.ft_list.proofs.Filling.{filled_sound}
 use Rattle.ft_list.proofs.Lists.{list_content, list_known, list_rooted, list_shut}
 use Rattle.ft_list.proofs.ItemWordsPut.{at_words, list_few, stored_some}
-use Rattle.ft_search.proofs.Puts.{done_then, few_done}
-use Rattle.ft_table_calls.proofs.PlainTables.{ArePlain, plain_reads, plain_named}
-use Rattle.ft_list.proofs.ItemValues.{item_plain}
-use Rattle.ft_trace.specs.Boxes.{known_box_word, named_in_root}
+use Rattle.ft_search.proofs.Puts.{few_same}
+use Rattle.ft_bank.specs.SameBoxes.{named_in_words}
+use Rattle.ft_bank.proofs.DoneBoxes.{stays_settled_same}
+use Rattle.ft_list.proofs.TakenNames.{taken_unnamed}
+use Rattle.ft_trace.specs.Boxes.{named_in_root}
 
 -- ---- what a pass knows of a list stays, where it knows the same words and the same content
 
@@ -69,7 +70,8 @@ grow_filled k o old table v w shape only may = record {
   owed = only.work.owes ∙ may.owed;
   fresh = only.work.hands (table_id table) ∙ may.fresh;
   table_in = may.table_in;
-  boxes = done_then k v w shape only.work.pass.shape only.references only.made may.boxes;
+  settled = (stays_settled_same v w only.made).settled may.settled;
+  few = few_same v w only.references may.few;
   left = subst (λ (n : ℕ). 0 < n) (sym only.work.left) may.left;
 }
 
@@ -116,24 +118,15 @@ module _ (k : Shape) (o : ℕ) (old : Option Table) (table : Table) (v : View) (
   the_one : (t : Table) → Some table ≡ Some t → table ≡ t
   the_one t e = ap (λ (z : Option Table). unwrap_or z table) e
 
-  module _ (filled : IsFilled c (known_items o v) (slots c) ws) (room : length (known_items o v) ≤ slots c) where
-    -- the new table names no box, and reads as it stands
-    plain_here : ArePlain (kind_in v.shape.starts o) c ws (rows (kind_in v.shape.starts o) c)
-    plain_here = subst (λ (z : Kind). ArePlain z c ws (rows z c)) (sym list_kind) (λ p less e. item_plain (known_items o v) p (sym (filled.items p less).kind_is ∙ e))
-
-    pub new_reads : hand_unboxed o (table_id table) v ≡ ws
-    new_reads = plain_reads (λ b i. known_box_word v.shape b i v.log) (kind_in v.shape.starts o) (table_id table) ws plain_here
-
-    pub new_names : (b : ℕ) → named_in_root b (kind_in v.shape.starts o) (suc (table_id table)) ws ≡ 0
-    new_names b = plain_named b (table_id table) (kind_in v.shape.starts o) ws plain_here
-
+  -- the table is filled with what the list has, and names each box as often as the old one
+  module _ (filled : IsFilled c (known_items o v) (slots c) (hand_unboxed o (table_id table) v)) (names : (b : ℕ) → named_in_root b (kind_in v.shape.starts o) (suc (table_id table)) ws ≡ named_in_words b (kind_in v.shape.starts o) (held_words o v)) (room : length (known_items o v) ≤ slots c) where
     sound_here : SoundAs (kind_in v.shape.starts o) v.shape.texts c (hand_unboxed o (table_id table) v) (known_state o v).content
     sound_here =
-        subst (λ (z : Kind × List ℕ). SoundAs z.0 v.shape.texts c z.1 (known_state o v).content) (λ d. (sym list_kind d, sym new_reads d))
-        (filled_sound c (table_class k table may.table_in) (known_items o v) ws filled room)
+        subst (λ (z : Kind). SoundAs z v.shape.texts c (hand_unboxed o (table_id table) v) (known_state o v).content) (sym list_kind)
+        (filled_sound c (table_class k table may.table_in) (known_items o v) (hand_unboxed o (table_id table) v) filled room)
 
     young_here : (p : ℕ) → p < rows (kind_in v.shape.starts o) c → slice_index (hand_unboxed o (table_id table) v) (version_at (kind_in v.shape.starts o) c p) ≡ 0
-    young_here = subst (λ (z : Kind × List ℕ). (p : ℕ) → p < rows z.0 c → slice_index z.1 (version_at z.0 c p) ≡ 0) (λ d. (sym list_kind d, sym new_reads d)) filled.version
+    young_here = subst (λ (z : Kind). (p : ℕ) → p < rows z c → slice_index (hand_unboxed o (table_id table) v) (version_at z c p) ≡ 0) (sym list_kind) filled.version
 
     shut_here : (t : ℕ) → root_in (held_unboxed o v) ≡ suc t → Shut (version_at (kind_in v.shape.starts o) (class_of t)) (rows (kind_in v.shape.starts o) (class_of t)) (held_unboxed o v).table
     shut_here t names = subst (λ (z : Kind). Shut (version_at z (class_of t)) (rows z (class_of t)) (held_unboxed o v).table) (sym list_kind) (list_shut v o t possible low may.list.locked may.list.even list_kind names)
@@ -150,10 +143,10 @@ module _ (k : Shape) (o : ℕ) (old : Option Table) (table : Table) (v : View) (
       spare = λ some_one. may.used;
       early = λ e. absurd (true≢false (ap is_some e));
       references = record {
-        few = few_done k v shape may.boxes;
-        enough = λ b. let none = new_names b in omega (arith, none);
-        known = λ b old_none some_. absurd (some_ (new_names b));
-        stored = λ b taken. new_names b;
+        few = may.few;
+        enough = λ b. let same = names b in omega (arith, same);
+        known = λ b old_none some_. absurd (some_ (names b ∙ old_none));
+        stored = λ b taken. names b ∙ taken_unnamed v o b possible low may.list.locked may.even taken;
       };
     }
 

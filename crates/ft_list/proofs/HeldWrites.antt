@@ -15,8 +15,8 @@ use Rattle.ft_trace.specs.declared.Shape.{Shape}
 use Rattle.ft_trace.specs.declared.View.{View}
 use Rattle.ft_model.specs.Answers.{is_write}
 use Rattle.ft_trace.specs.Acts.{debt, has_lock, is_writing, stage}
-use Rattle.ft_trace.specs.Addresses.{container_count, class_of, slots, IsBoxName}
-use Rattle.ft_trace.specs.Boxes.{known_box_word, names_box, place_use, references_held, use_taken, IsDoneWithBoxes, IsSettled}
+use Rattle.ft_trace.specs.Addresses.{container_count, class_of, slots}
+use Rattle.ft_trace.specs.Boxes.{names_box, place_use, references_held, use_taken, IsDoneWithBoxes, IsSettled}
 use Rattle.ft_trace.specs.ContainerStates.{ContainerState, changes}
 use Rattle.ft_trace.specs.Holds.{held_words, held_unboxed, known_state}
 use Rattle.ft_trace.specs.Pictures.{ContainerWords, Represents, item_field, root_in}
@@ -32,7 +32,7 @@ use Rattle.ft_bank.specs.Whole.{OnlyBoxed, OnlyLoaded, SameWork, Wrote, debt_aft
 use Rattle.ft_bank.specs.WriteSteps.{MayHave}
 use Rattle.ft_bank.proofs.DoneBoxes.{settled_then, stays_settled_same}
 use Rattle.ft_bank.proofs.KnownAfterWrites.{work_knows}
-use Rattle.ft_boxes.specs.References.{HoldsBox, HoldsOneLess, KnowsValue, LeavesNoTaken}
+use Rattle.ft_boxes.specs.References.{HoldsBox, HoldsOneLess, LeavesNoTaken}
 use Rattle.ft_search.specs.MadeCalls.{IsReplyTo}
 use Rattle.ft_search.specs.OneEntryWrites.{HasTable}
 use Rattle.ft_search.proofs.Overs.{boxed_names, held_same, other_way}

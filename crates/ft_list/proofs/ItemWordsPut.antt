@@ -20,7 +20,7 @@ use Rattle.ft_trace.specs.ItemWords.{value_words, words_at, said_at, OpensChange
 use Rattle.ft_trace.proofs.Cases.{miss, here}
 use Rattle.ft_trace.proofs.Untouched.{there_is}
 use Rattle.ft_list.specs.ListItemWrites.{PutsItem, IsChanging, IsPutting, stored_item, but_at, stored_words}
-use Rattle.ft_list.specs.Internal.Moving.{IsMoving}
+use Rattle.ft_list.specs.Internal.Moving.{IsMoving, IsMovingDown}
 use Rattle.ft_list.proofs.PutItems.{header_word, past_end}
 
 by : (found : Option Value) → stored_words (option_map_or Plain found Empty) ≡ option_map_or value_words found (0 ∷ 0 ∷ [])
@@ -113,6 +113,40 @@ module _ (class : ℕ) (is_class : IsClass class) where
         ];
         odd = λ q low one. elim (cases_eq q place) [
           | inl e ↦ (omega (arith, e, from), omega (arith, e, to))
+          | inr ne ↦ putting.odd q low (ap (λ (n : ℕ). n % 2) (sym (same q 0 ne (omega arith))) ∙ one)
+        ];
+      }
+
+  -- an item was put again, whose version is odd, and stores something else than the list had
+  pub putting_again : (before : List Value) (first past : ℕ) (now : ℕ → Stored) (old new : ContainerWords) (place : ℕ) (stored : Stored) → IsPutting class before first past now old.table → PutsItem place stored old new → FitsStored stored → item_field old.table place 0 % 2 ≡ 1 → stored_words stored ≢ words_at before place → IsPutting class before first past (but_at now place stored) new.table
+  putting_again before first past now old new place stored putting puts fits was other =
+      let same : (q w : ℕ) → q ≢ place → w < 4 → item_field new.table q w ≡ item_field old.table q w = λ q w ne few. puts.rest (item_offset q w) (elim (cases_lt q place) [ inl less ↦ inl (omega (arith, less, few)) | inr more ↦ inr (omega (arith, more, few, ne)) ]) in
+      let now_else : (q : ℕ) → q ≢ place → but_at now place stored q ≡ now q = λ q ne. miss q place stored (now q) ne in
+      let now_here : (q : ℕ) → q ≡ place → but_at now place stored q ≡ stored = λ q e. here q place stored (now q) e in
+      let odd_now : item_field new.table place 0 % 2 ≡ 1 = elim puts.version [
+        | inl opened ↦ opened.0
+        | inr table ↦ ap (λ (l : List ℕ). item_field l place 0 % 2) table ∙ was
+      ] in
+      record {
+        size = let s = puts.size in let z = putting.size in omega (arith, s, z);
+        spare = λ q low. elim (cases_eq q place) [
+          | inl e ↦ puts.rest (item_offset q 3) (inr (omega (arith, e))) ∙ putting.spare q low
+          | inr ne ↦ same q 3 ne (omega arith) ∙ putting.spare q low
+        ];
+        items = λ q low. elim (cases_eq q place) [
+          | inl e ↦ subst (λ (z : Stored). IsStored (item_field new.table q 1) (item_field new.table q 2) z) (sym (now_here q e)) (subst (λ (n : ℕ). IsStored (item_field new.table n 1) (item_field new.table n 2) stored) (sym e) (record { fits = fits; kind_is = puts.kind; payload_is = puts.payload }))
+          | inr ne ↦ subst (λ (z : Stored). IsStored (item_field new.table q 1) (item_field new.table q 2) z) (sym (now_else q ne)) (subst (λ (x : ℕ × ℕ). IsStored x.0 x.1 (now q)) (λ d. (sym (same q 1 ne (omega arith)) d, sym (same q 2 ne (omega arith)) d)) (putting.items q low))
+        ];
+        shut = λ q low two. elim (cases_eq q place) [
+          | inl e ↦ absurd (let v : item_field new.table q 0 ≡ item_field new.table place 0 = ap (λ (z : ℕ). item_field new.table z 0) e in omega (arith, v, odd_now, two))
+          | inr ne ↦ ap stored_words (now_else q ne) ∙ putting.shut q low (ap (λ (n : ℕ). n % 2) (sym (same q 0 ne (omega arith))) ∙ two)
+        ];
+        opens = λ q low one. elim (cases_eq q place) [
+          | inl e ↦ λ as_before. other (ap stored_words (sym (now_here q e)) ∙ (as_before ∙ ap (λ (n : ℕ). words_at before n) e))
+          | inr ne ↦ λ as_before. putting.opens q low (ap (λ (n : ℕ). n % 2) (sym (same q 0 ne (omega arith))) ∙ one) (ap stored_words (sym (now_else q ne)) ∙ as_before)
+        ];
+        odd = λ q low one. elim (cases_eq q place) [
+          | inl e ↦ putting.odd q low (ap (λ (n : ℕ). item_field old.table n 0 % 2) e ∙ was)
           | inr ne ↦ putting.odd q low (ap (λ (n : ℕ). n % 2) (sym (same q 0 ne (omega arith))) ∙ one)
         ];
       }
@@ -241,3 +275,46 @@ remove_low values i q low less = stored_by values (remove values i) q q (get_rem
 
 pub remove_past : (values : List Value) (i q : ℕ) → i < length values → i ≤ q → stored_item values (q + 1) ≡ stored_item (remove values i) q
 remove_past values i q low from = let n : suc q ≡ q + 1 = omega arith in ap (λ (z : ℕ). stored_item values z) (sym n) ∙ stored_by values (remove values i) (suc q) q (get_remove_past values i q from low)
+
+-- ---- items that are put in order from the last one down
+
+module _ (class : ℕ) (is_class : IsClass class) (values news : List Value) (first past : ℕ) where
+  pub down_finds : (at : ℕ) (ws : List ℕ) → IsMovingDown class values news first past (at + 1) ws → at < slots class → IsStored (item_field ws at 1) (item_field ws at 2) (stored_item values at)
+  down_finds at ws moving low = subst (λ (z : Stored). IsStored (item_field ws at 1) (item_field ws at 2) z) (moving.rest at (omega arith)) (moving.putting.items at low)
+
+  pub down_next : (at : ℕ) (old new : ContainerWords) (stored : Stored) → IsMovingDown class values news first past (at + 1) old.table → PutsItem at stored old new → FitsStored stored → stored ≡ stored_item news at → first ≤ at → at < past → IsMovingDown class values news first past at new.table
+  down_next at old new stored moving puts fits is from to = record {
+    now = but_at moving.now at stored;
+    putting = putting_put class is_class values first past moving.now old new at stored moving.putting puts fits from to (moving.rest at (omega arith));
+    done = λ p up. elim (cases_eq p at) [
+      | inl e ↦ here p at stored (moving.now p) e ∙ (is ∙ ap (λ (n : ℕ). stored_item news n) (sym e))
+      | inr ne ↦ miss p at stored (moving.now p) ne ∙ moving.done p (omega (arith, up, ne))
+    ];
+    rest = λ p less. miss p at stored (moving.now p) (λ e. omega (arith, less, e)) ∙ moving.rest p (omega (arith, less));
+  }
+
+-- one item is taken out of a list of that many
+module _ (class : ℕ) (is_class : IsClass class) (values : List Value) (place count : ℕ) where
+  none_past : place < length values → length values ≡ count → (p : ℕ) → count ≤ p → stored_item values p ≡ stored_item (remove values place) p
+  none_past low long p up =
+      let l = long_remove values place low in
+      stored_none values p (omega (arith, up, long)) ∙ sym (stored_none (remove values place) p (omega (arith, up, long, l)))
+
+  pub down_starts : (at : ℕ) (ws : List ℕ) → IsPutting class values place count (stored_item values) ws → place < length values → length values ≡ at → IsMovingDown class values (remove values place) place count at ws
+  down_starts at ws putting low long = record {
+    now = stored_item values;
+    putting = putting;
+    done = λ p up. let l = long_remove values place low in stored_none values p (omega (arith, up, long)) ∙ sym (stored_none (remove values place) p (omega (arith, up, long, l)));
+    rest = λ p less. refl;
+  }
+
+  pub down_ends : (ws : List ℕ) → IsMovingDown class values (remove values place) place count place ws → place < length values → length values ≡ count → IsMoving class values (remove values place) place count count ws
+  down_ends ws moving low long = record {
+    now = moving.now;
+    putting = moving.putting;
+    done = λ p less. elim (cases_lt p place) [
+      | inl before ↦ moving.rest p before ∙ remove_low values place p low before
+      | inr from ↦ moving.done p from
+    ];
+    rest = λ p up. moving.done p (omega (arith, up, low, long)) ∙ sym (none_past low long p up);
+  }

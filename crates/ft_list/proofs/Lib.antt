@@ -23,7 +23,9 @@ pub mod EmptyWrites
 pub mod Both
 pub mod Filling
 pub mod Wanted
+pub mod TakenNames
 pub mod GrownLists
+pub mod Copied
 pub mod Rooted
 pub mod GrowWrites
 pub mod Additions

@@ -55,7 +55,7 @@ start_reads o f v (Some t) = refl
 
 -- ---- right after the root was put
 
-module _ (k : Shape) (o : ℕ) (old root : Option Table) (v s r : View) (f : ℕ) (shape : v.shape ≡ k) (list : KnowsList k o old v) (settled : IsSettled v.log) (plain : (b : ℕ) → named_in_root b (kind_in v.shape.starts o) (root_for root) (words_for root v) ≡ 0) (begun : s ≡ view_after (StartWrite o f) v) (put : r ≡ view_after (PutRoot o (root_for root) (root_in (held_words o s))) s) (held : held_words o r ≡ with_root (held_words o s) root s) (moves : MovesReferences o s r) where
+module _ (k : Shape) (o : ℕ) (old root : Option Table) (v s r : View) (f : ℕ) (shape : v.shape ≡ k) (list : KnowsList k o old v) (settled : IsSettled v.log) (begun : s ≡ view_after (StartWrite o f) v) (put : r ≡ view_after (PutRoot o (root_for root) (root_in (held_words o s))) s) (held : held_words o r ≡ with_root (held_words o s) root s) (moves : MovesReferences o s r) where
   pub put_is : r ≡ view_after (PutRoot o (root_for root) (root_in (held_words o v))) (view_after (StartWrite o f) v)
   put_is = put ∙ ap (λ (z : View). view_after (PutRoot o (root_for root) (root_in (held_words o z))) z) begun
 
@@ -78,60 +78,72 @@ module _ (k : Shape) (o : ℕ) (old root : Option Table) (v s r : View) (f : ℕ
   start_leaves None = refl
   start_leaves (Some t) = refl
 
-  -- its words name no box
-  pub put_plain : (b : ℕ) → named_in_words b (kind_in r.shape.starts o) (held_words o r) ≡ 0
-  put_plain b =
+  -- its words name what the table in hand named
+  pub put_names : (b : ℕ) → named_in_words b (kind_in r.shape.starts o) (held_words o r) ≡ named_in_root b (kind_in v.shape.starts o) (root_for root) (words_for root v)
+  put_names b =
       let size = (head_of k.texts (held_unboxed o v).block (0 ∷ 0 ∷ (held_unboxed o v).table) (known_state o v).table (known_state o v).content list.stands).size in
       -- the start of a write leaves the words
       let started : with_root (held_words o (view_after (StartWrite o f) v)) root (view_after (StartWrite o f) v) ≡ with_root (held_words o v) root v = start_leaves root in
       let is : held_words o r ≡ with_root (held_words o v) root v = held ∙ ap (λ (z : View). with_root (held_words o z) root z) begun ∙ started in
       let first : slice_index (slice_set (held_words o v).block 0 (root_for root)) 0 ≡ root_for root = get_or-set_same (held_words o v).block 0 (root_for root) 0 (omega (arith, size)) in
-      (λ d. named_in_words b (kind_in (put_shape d).starts o) (is d))
-      ∙ ((λ d. named_in_root b (kind_in v.shape.starts o) (first d) (words_for root v)) ∙ plain b)
+      (λ d. named_in_words b (kind_in (put_shape d).starts o) (is d)) ∙ (λ d. named_in_root b (kind_in v.shape.starts o) (first d) (words_for root v))
 
   pub put_settled : IsSettled r.log
   put_settled = (stays_settled_same v r put_made).settled settled
 
-  -- a list that had no table
-  pub put_same : root_in (held_words o v) ≡ 0 → SameReferences v r
-  put_same bare b =
+  -- where that is what the old table named, the pass holds the references that it held
+  pub put_moved : ((b : ℕ) → named_in_root b (kind_in v.shape.starts o) (root_for root) (words_for root v) ≡ named_in_words b (kind_in v.shape.starts o) (held_words o v)) → SameReferences v r
+  put_moved same b =
       let sum = put_moves b in
-      let none = put_plain b in
-      let was = none_named b (kind_in v.shape.starts o) (held_words o v) bare in
-      omega (arith, sum, none, was)
+      let now = put_names b in
+      let was = same b in
+      omega (arith, sum, now, was)
 
-  -- one that had this table: it is in the pass's hand, with the references of the boxes that it names
-  module _ (t : ℕ) (names : root_in (held_words o v) ≡ suc t) (in_bank : IsTableName k t) (other : suc t ≢ root_for root) where
-    pub old_out : stage t r.log ≡ 3
-    old_out =
-        let n = stage t v.log in
-        let new = root_for root in
-        ap (λ (z : View). stage t z.log) put_is
-        ∙ ((λ i. stage_next t (PutRoot o new (names i)) n)
-        ∙ (miss new (suc t) 0 (cond (eqb (suc t) (suc t)) 3 n) (λ e. other (sym e)) ∙ hit (suc t) 3 n))
+  -- where it names no box
+  module _ (plain : (b : ℕ) → named_in_root b (kind_in v.shape.starts o) (root_for root) (words_for root v) ≡ 0) where
+    pub put_plain : (b : ℕ) → named_in_words b (kind_in r.shape.starts o) (held_words o r) ≡ 0
+    put_plain b = put_names b ∙ plain b
 
-    old_hand : in_hand t r ≡ (held_words o v).table
-    old_hand =
-        ap (in_hand t) put_is
-        ∙ taken_words (view_after (StartWrite o f) v) o t (root_for root) (root_in (held_words o v)) (subst (λ (z : Shape). o < container_count z) (sym shape) list.container) (subst (λ (z : Shape). IsTableName z t) (sym shape) in_bank) names
+    -- a list that had no table
+    pub put_same : root_in (held_words o v) ≡ 0 → SameReferences v r
+    put_same bare b =
+        let sum = put_moves b in
+        let none = put_plain b in
+        let was = none_named b (kind_in v.shape.starts o) (held_words o v) bare in
+        omega (arith, sum, none, was)
 
-    pub old_held : HoldsNamed k o t r
-    old_held = holds_named k o t v r shape put_shape put_moves names old_hand put_plain
+    -- one that had this table: it is in the pass's hand, with the references of the boxes that it names
+    module _ (t : ℕ) (names : root_in (held_words o v) ≡ suc t) (in_bank : IsTableName k t) (other : suc t ≢ root_for root) where
+      pub old_out : stage t r.log ≡ 3
+      old_out =
+          let n = stage t v.log in
+          let new = root_for root in
+          ap (λ (z : View). stage t z.log) put_is
+          ∙ ((λ i. stage_next t (PutRoot o new (names i)) n)
+          ∙ (miss new (suc t) 0 (cond (eqb (suc t) (suc t)) 3 n) (λ e. other (sym e)) ∙ hit (suc t) 3 n))
 
-    -- after the drop of all that the old table named
-    module _ (w : View) (boxed : OnlyBoxed r w) (made : StaysSettled r w) (dropped : (b : ℕ) → references_held k b w.log + named_in_root b (kind_in k.starts o) (suc t) (in_hand t r) ≡ references_held k b r.log) where
-      pub dropped_settled : IsSettled w.log
-      dropped_settled = made.settled put_settled
+      old_hand : in_hand t r ≡ (held_words o v).table
+      old_hand =
+          ap (in_hand t) put_is
+          ∙ taken_words (view_after (StartWrite o f) v) o t (root_for root) (root_in (held_words o v)) (subst (λ (z : Shape). o < container_count z) (sym shape) list.container) (subst (λ (z : Shape). IsTableName z t) (sym shape) in_bank) names
 
-      pub dropped_same : SameReferences v w
-      dropped_same = dropped_named k o t v r w shape put_shape boxed.work.pass.shape put_moves names old_hand put_plain dropped
+      pub old_held : HoldsNamed k o t r
+      old_held = holds_named k o t v r shape put_shape put_moves names old_hand put_plain
 
-      pub dropped_only : OnlyWritten o r w
-      dropped_only = boxed_written o r w boxed made (λ b.
-          let less = dropped b in
-          let now : references_held w.shape b w.log ≡ references_held k b w.log = ap (λ (z : Shape). references_held z b w.log) (boxed.work.pass.shape ∙ (put_shape ∙ shape)) in
-          let was : references_held r.shape b r.log ≡ references_held k b r.log = ap (λ (z : Shape). references_held z b r.log) (put_shape ∙ shape) in
-          omega (arith, less, now, was))
+      -- after the drop of all that the old table named
+      module _ (w : View) (boxed : OnlyBoxed r w) (made : StaysSettled r w) (dropped : (b : ℕ) → references_held k b w.log + named_in_root b (kind_in k.starts o) (suc t) (in_hand t r) ≡ references_held k b r.log) where
+        pub dropped_settled : IsSettled w.log
+        dropped_settled = made.settled put_settled
 
-      pub dropped_reads : held_unboxed o w ≡ held_unboxed o r
-      dropped_reads = boxed.unboxed o put_here put_mine
+        pub dropped_same : SameReferences v w
+        dropped_same = dropped_named k o t v r w shape put_shape boxed.work.pass.shape put_moves names old_hand put_plain dropped
+
+        pub dropped_only : OnlyWritten o r w
+        dropped_only = boxed_written o r w boxed made (λ b.
+            let less = dropped b in
+            let now : references_held w.shape b w.log ≡ references_held k b w.log = ap (λ (z : Shape). references_held z b w.log) (boxed.work.pass.shape ∙ (put_shape ∙ shape)) in
+            let was : references_held r.shape b r.log ≡ references_held k b r.log = ap (λ (z : Shape). references_held z b r.log) (put_shape ∙ shape) in
+            omega (arith, less, now, was))
+
+        pub dropped_reads : held_unboxed o w ≡ held_unboxed o r
+        dropped_reads = boxed.unboxed o put_here put_mine

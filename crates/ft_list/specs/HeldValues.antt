@@ -9,6 +9,9 @@ use Rattle.ft_trace.specs.declared.Shape.{Shape}
 use Rattle.ft_trace.specs.declared.View.{View}
 use Rattle.ft_trace.specs.Acts.{debt, stage}
 use Rattle.ft_trace.specs.Boxes.{place_use, references_held, use_taken, IsDoneWithBoxes}
+use Rattle.ft_trace.specs.BoxWords.{box_kind}
+use Rattle.ft_trace.specs.Holds.{held_words}
+use Rattle.ft_trace.specs.Pictures.{item_field}
 use Rattle.ft_bank.specs.Answered.{Answered}
 use Rattle.ft_bank.specs.BoxSteps.{box_id, IsBoxIn}
 use Rattle.ft_bank.specs.Whole.{OnlyBoxed, Wrote}
@@ -23,6 +26,11 @@ pub record HoldsValue (b : Ref) (value : Value) (v : View) : Type 0 where
   pub one : (c : ℕ) → references_held v.shape c v.log ≡ cond (c == box_id b) 1 0
   pub knows : KnowsValue b value v
   pub taken : (c : ℕ) → place_use c v.log ≡ use_taken → c ≡ box_id b
+
+-- the item at this place of the list o names this box
+abbrev pub NamesBoxAt : ℕ → ℕ → Ref → View → Type 0
+NamesBoxAt o place b v =
+    (item_field (held_words o v).table place 1 ≡ box_kind) × (item_field (held_words o v).table place 2 ≡ box_id b)
 
 -- A pass with the locks of a call made it, as one whole write, or as an entry that isn't a write at a load of the counter;
 -- before that it may have dropped a reference for a box. Its reply is the one of the plain containers, and it is a write

@@ -5,3 +5,4 @@ pub mod Additions
 pub mod Moving
 pub mod Reversing
 pub mod StoredBoxes
+pub mod Carrying

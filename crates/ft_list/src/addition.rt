@@ -13,6 +13,7 @@ ghost use Rattle.ft_bank.specs.SameBoxes.{SameReferences};
 ghost use Rattle.ft_bank.specs.TableNames.{table_id, root_for, IsTableIn};
 ghost use Rattle.ft_bank.specs.Whole.{OnlyLoaded, OnlyWritten};
 ghost use Rattle.ft_list.specs.ListItemWrites.{WritesList, IsPutting, known_items, stored_item};
+ghost use Rattle.ft_list.specs.Internal.Carrying.{HoldsSpare};
 ghost use Rattle.ft_list.specs.Internal.Moving.{IsMoving};
 ghost use Rattle.ft_list.specs.Internal.Additions.{count_in, first_in, with_added, GivesItems, IsAdditionTo};
 
@@ -21,7 +22,7 @@ use crate::locked::table_at_root;
 use crate::reads::read_stored;
 use crate::writes::{put_last, shift_up};
 use ft_bank::{Bank, Pass, Table};
-use ft_layout::Stored;
+use ft_layout::{Stored, stored_kind_of, stored_payload_of};
 use ft_model::Value;
 
 /// What a call adds to a list.
@@ -154,6 +155,7 @@ pub(crate) fn put_added(
     requires addition { IsAdditionTo (shape_of bank.now) o count addition (view pass.old) }
     requires count { count ≡ length (known_items o (view pass.old)) }
     requires room { count + count_in addition ≤ slots (class_of (table_id table)) }
+    requires spare { HoldsSpare (shape_of bank.now) (view pass.old) }
     requires before { IsPutting (class_of (table_id table)) (known_items o (view pass.old)) (first_in addition count)
         (count + count_in addition) (stored_item (known_items o (view pass.old))) (held_unboxed o (view pass.old)).table }
     ensures pass { IsPassOf bank.now pass.new }
@@ -171,7 +173,9 @@ pub(crate) fn put_added(
             if place == count {
                 put_last(bank, pass, o, table, count, value)
             } else {
-                shift_up(bank, pass, o, table, place, count, value)
+                let stored = Stored::Plain(value);
+                let given = (stored_kind_of(stored), stored_payload_of(stored));
+                shift_up(bank, pass, o, table, place, count, given)
             }
         }
         Addition::All { other, count: more } => {

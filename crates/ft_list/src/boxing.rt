@@ -14,9 +14,9 @@ ghost use Rattle.ft_bank.specs.PassSections.{stack_of};
 ghost use Rattle.ft_bank.specs.Whole.{OnlyLoaded};
 ghost use Rattle.ft_search.specs.OneEntryWrites.{HasTable};
 ghost use Rattle.ft_boxes.specs.References.{box_of};
-ghost use Rattle.ft_list.specs.HeldValues.{HoldsValue, MadeHeld};
+ghost use Rattle.ft_list.specs.HeldValues.{HoldsValue, MadeHeld, NamesBoxAt};
 ghost use Rattle.ft_list.specs.Internal.StoredBoxes.{WroteHeld};
-ghost use Rattle.ft_list.specs.ListItemWrites.{known_items};
+ghost use Rattle.ft_list.specs.ListItemWrites.{known_items, stored_item};
 ghost use Rattle.ft_list.specs.ListWrites.{Changes, MayBeginList};
 
 use crate::locked::{LENGTH, place_in, raise, table_at_root, value_fits};
@@ -77,6 +77,8 @@ fn set_box(
         reply.Done (known_items l (view pass.old)) (slice_set (known_items l (view pass.old)) place value) (view pass.old) }
     ensures pass { IsPassOf bank.now pass.new }
     ensures stack { stack_of pass.new ≡ stack_of pass.old }
+    ensures names { stored_item (known_items l (view pass.old)) place ≢ Plain value →
+        NamesBoxAt l place (box_of held) (view pass.new) }
     ensures wrote { WroteHeld (shape_of bank.now) l called.now result (view pass.old) (view pass.new) }
 {
     let old = read_stored(bank, pass, l, table, place);
@@ -109,7 +111,8 @@ fn set_box(
     )
 }
 
-/// `l[i] = v`, under the lock, where `v` stands in a box for which the pass holds the one reference.
+/// `l[i] = v`, under the lock, where `v` stands in a box for which the pass holds the one reference. The item names that box
+/// then, unless it had an equal value already.
 pub fn set_held(
     bank: &Bank,
     pass: &mut Pass,
@@ -128,6 +131,8 @@ pub fn set_held(
         (view pass.new) }
     ensures done { (place : ℕ) → index_in (length (known_items l (view pass.old))) index ≡ Some place →
         (result.0 ≡ reply.Done) × (result.1.wrote ≡ true) }
+    ensures names { (place : ℕ) → index_in (length (known_items l (view pass.old))) index ≡ Some place →
+        stored_item (known_items l (view pass.old)) place ≢ Plain value → NamesBoxAt l place (box_of held) (view pass.new) }
     ensures raises { index_in (length (known_items l (view pass.old))) index ≡ None →
         (result.0 ≡ reply.Raised raise.NoIndex) × (result.1.wrote ≡ false) }
 {

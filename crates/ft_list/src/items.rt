@@ -11,22 +11,23 @@ ghost use Rattle.ft_trace.specs.BoxWords.{box_kind};
 ghost use Rattle.ft_trace.specs.Holds.{held_words, held_unboxed};
 ghost use Rattle.ft_trace.specs.ItemWords.{said_at, words_at};
 ghost use Rattle.ft_trace.specs.Pictures.{item_offset, item_field};
-ghost use Rattle.ft_bank.specs.BoxSteps.{HasReferenceFor};
+ghost use Rattle.ft_bank.specs.BoxSteps.{kind_read, payload_read, HasReferenceFor};
 ghost use Rattle.ft_bank.specs.Passes.{shape_of, view, IsPassOf};
 ghost use Rattle.ft_bank.specs.PassSections.{stack_of};
 ghost use Rattle.ft_bank.specs.TableNames.{table_id, IsPlaceOf};
 ghost use Rattle.ft_bank.specs.SameBoxes.{SameReferences};
 ghost use Rattle.ft_bank.specs.Whole.{OnlyLoaded, OnlyPut, OnlyWritten, EndsWrite};
 ghost use Rattle.ft_search.specs.Boxed.{KeepsOwn};
+ghost use Rattle.ft_list.specs.Internal.Carrying.{HoldsFewBut, KeepsItemValues};
 ghost use Rattle.ft_list.specs.ListItemWrites.{WritesList, PutsItem, ClosesItem, IsChanging, MayFinishItems, ReadsAs, known_items, stored_words, with_word};
 
 use crate::values::held_value;
 use ft_bank::{Bank, Pass, Table};
 use ft_layout::{
-    Stored, item_at, item_of, item_word, stored_kind_of, stored_payload_of, versions_change_nothing,
+    Stored, item_at, item_word, stored_kind_of, stored_payload_of, versions_change_nothing,
 };
 use ft_model::{Call, Reply};
-use ft_search::put_over;
+use ft_search::{exchange, put_over, read_value, release};
 
 /// How many words of a table come before those that a bank counts.
 const HEADER: u64 = 2;
@@ -88,33 +89,6 @@ fn open_item(bank: &Bank, pass: &mut Pass, o: u32, table: Table, start: u64, pla
     }
 }
 
-/// What an item stores of a list that the pass writes.
-pub(crate) fn item(
-    bank: &Bank,
-    pass: &mut Pass,
-    o: u32,
-    table: Table,
-    start: u64,
-    place: u64,
-) -> Stored
-    requires pass { IsPassOf bank.now pass.old }
-    requires list { WritesList (shape_of bank.now) o table (view pass.old) }
-    requires start { IsPlaceOf (shape_of bank.now) table start }
-    requires place { place < slots (class_of (table_id table)) }
-    ensures pass { IsPassOf bank.now pass.new }
-    ensures stack { stack_of pass.new ≡ stack_of pass.old }
-    ensures list { WritesList (shape_of bank.now) o table (view pass.new) }
-    ensures only { OnlyLoaded (view pass.old) (view pass.new) }
-    ensures held { held_unboxed o (view pass.new) ≡ held_unboxed o (view pass.old) }
-    ensures stored { (stored : Stored) →
-        IsStored (item_field (held_unboxed o (view pass.old)).table place 1) (item_field (held_unboxed o (view pass.old)).table place 2) stored →
-        result ≡ stored }
-    ensures fits { FitsStored result }
-{
-    let (kind, payload) = held_value(bank, pass, o, table, start, place);
-    item_of(&[0, kind, payload, 0]).unwrap_or(Stored::Empty)
-}
-
 /// Has an item store this, before the commit: a value in place, or in a box for which the pass holds a reference and
 /// whose value, another one than the item's, it knows. Its version is made odd, and its words are put; the reference of
 /// the box is theirs then, and that of a box which they named is dropped. An item that reads so already is left alone.
@@ -162,6 +136,71 @@ pub(crate) fn put_item(
     put_over(bank, pass, o, table, start, word, kind, payload);
 }
 
+/// Has an item have a value, before the commit, and answers the one that it had, each as its kind and its payload stand:
+/// the value itself, or what names the box in which it stands, for which the pass holds a reference and whose value it
+/// knows. An item that reads so already is left alone, and the value is answered; else the item's version is made odd, and
+/// the reference of the new value is the words' then, and that of the old one the pass's.
+pub(crate) fn carry_item(
+    bank: &Bank,
+    pass: &mut Pass,
+    o: u32,
+    table: Table,
+    place: u64,
+    value: (u64, u64),
+) -> (u64, u64)
+    requires pass { IsPassOf bank.now pass.old }
+    requires list { WritesList (shape_of bank.now) o table (view pass.old) }
+    requires early { has_committed o (view pass.old).log ≡ false }
+    requires place { place < slots (class_of (table_id table)) }
+    requires own { HasReferenceFor (view pass.old) value.0 value.1 }
+    requires spare { HoldsFewBut (shape_of bank.now) value.0 value.1 (view pass.old) }
+    ensures pass { IsPassOf bank.now pass.new }
+    ensures stack { stack_of pass.new ≡ stack_of pass.old }
+    ensures list { WritesList (shape_of bank.now) o table (view pass.new) }
+    ensures only { OnlyWritten o (view pass.old) (view pass.new) }
+    ensures block { (held_unboxed o (view pass.new)).block ≡ (held_unboxed o (view pass.old)).block }
+    ensures puts { (seen : Stored) →
+        IsStored (kind_read (view pass.old) value.0 value.1) (payload_read (view pass.old) value.0 value.1) seen →
+        PutsItem place seen (held_unboxed o (view pass.old)) (held_unboxed o (view pass.new)) }
+    ensures own { HasReferenceFor (view pass.new) result.0 result.1 }
+    ensures spare { HoldsFewBut (shape_of bank.now) result.0 result.1 (view pass.new) }
+    ensures found { (kind_read (view pass.new) result.0 result.1 ≡ item_field (held_unboxed o (view pass.old)).table place 1)
+        × (payload_read (view pass.new) result.0 result.1 ≡ item_field (held_unboxed o (view pass.old)).table place 2) }
+    ensures references { (b : ℕ) →
+        references_held (shape_of bank.now) b (view pass.new).log + names_box b value.0 value.1
+        ≡ references_held (shape_of bank.now) b (view pass.old).log + names_box b result.0 result.1 }
+{
+    let start = bank.cell_of(table);
+    let (kind, payload) = read_value(bank, pass, value.0, value.1);
+    let (old_kind, old_payload) = held_value(bank, pass, o, table, start, place);
+    if old_kind == kind && old_payload == payload {
+        return value;
+    }
+    open_item(bank, pass, o, table, start, place);
+    let word = word_at(place, item_word::VALUE_KIND);
+    exchange(bank, pass, o, table, word, value)
+}
+
+/// Drops the reference of a value that no item has, with this kind and this payload, where it names a box.
+pub(crate) fn let_go(bank: &Bank, pass: &mut Pass, o: u32, table: Table, value: (u64, u64))
+    requires pass { IsPassOf bank.now pass.old }
+    requires list { WritesList (shape_of bank.now) o table (view pass.old) }
+    requires own { HasReferenceFor (view pass.old) value.0 value.1 }
+    ensures pass { IsPassOf bank.now pass.new }
+    ensures stack { stack_of pass.new ≡ stack_of pass.old }
+    ensures list { WritesList (shape_of bank.now) o table (view pass.new) }
+    ensures only { OnlyWritten o (view pass.old) (view pass.new) }
+    ensures held { held_unboxed o (view pass.new) ≡ held_unboxed o (view pass.old) }
+    ensures references { (b : ℕ) →
+        references_held (shape_of bank.now) b (view pass.new).log + names_box b value.0 value.1
+        ≡ references_held (shape_of bank.now) b (view pass.old).log }
+{
+    let _ = (o, table);
+    if value.0 == BOX_KIND {
+        release(bank, pass, value.1);
+    }
+}
+
 /// Makes the version of an item even after the commit, where it is odd: the item's words say what the
 /// list has.
 fn close_item(bank: &Bank, pass: &mut Pass, o: u32, table: Table, start: u64, place: u64)
@@ -177,6 +216,7 @@ fn close_item(bank: &Bank, pass: &mut Pass, o: u32, table: Table, start: u64, pl
     ensures only { OnlyPut o (view pass.old) (view pass.new) }
     ensures references { SameReferences (view pass.old) (view pass.new) }
     ensures item { ClosesItem place (held_unboxed o (view pass.old)) (held_unboxed o (view pass.new)) }
+    ensures values { KeepsItemValues o (view pass.old) (view pass.new) }
 {
     let version = read_version(bank, pass, o, table, start, place);
     if version % 2 == 1 {
@@ -205,6 +245,7 @@ fn close_items(bank: &Bank, pass: &mut Pass, o: u32, table: Table, first: u64, p
     ensures only { OnlyPut o (view pass.old) (view pass.new) }
     ensures references { SameReferences (view pass.old) (view pass.new) }
     ensures block { (held_unboxed o (view pass.new)).block ≡ (held_unboxed o (view pass.old)).block }
+    ensures values { KeepsItemValues o (view pass.old) (view pass.new) }
     ensures closed { IsChanging (class_of (table_id table)) (known_items o (view pass.old))
         (known_items o (view pass.old)) past past (held_unboxed o (view pass.new)).table }
 {
@@ -235,6 +276,7 @@ pub(crate) fn finish(
     ensures stack { stack_of pass.new ≡ stack_of pass.old }
     ensures ends { EndsWrite called.now said.now result (view pass.old) (view pass.new) }
     ensures references { SameReferences (view pass.old) (view pass.new) }
+    ensures values { KeepsItemValues o (view pass.old) (view pass.new) }
     ensures stored { (b : ℕ) → place_use b (view pass.new).log ≢ use_taken }
 {
     let number = bank.commit(pass, called, said);

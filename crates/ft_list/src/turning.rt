@@ -18,25 +18,27 @@ ghost use Rattle.ft_list.specs.ListWrites.{MayWriteList, Changes};
 ghost use Rattle.ft_list.specs.ListItemWrites.{WritesList, IsPutting, known_items, stored_item};
 ghost use Rattle.ft_search.specs.MadeCalls.{MadeAs};
 ghost use Rattle.ft_search.specs.OneEntryWrites.{HasTable};
+ghost use Rattle.ft_list.specs.Internal.Carrying.{HoldsSpare};
 ghost use Rattle.ft_list.specs.Internal.Reversing.{IsTurning};
 
 use crate::bare::write_nothing;
-use crate::items::{finish, item, put_item};
+use crate::items::{carry_item, finish, let_go};
 use crate::locked::count_of;
+use crate::values::held_value;
 use crate::writes::begin;
 use ft_bank::{Bank, Pass, Table};
 use ft_model::{Call, ListCall, Reply};
 use ft_search::table_named;
 use ft_section::{Object, Stamp};
 
-/// Swaps two items, the later one as far from the last as the earlier one from the first.
+/// Swaps two items, the later one as far from the last as the earlier one from the first. Where they differ the later one
+/// is emptied first, so that no two of them name the same box.
 fn swap(bank: &Bank, pass: &mut Pass, o: u32, table: Table, count: u64, at: u64)
     requires pass { IsPassOf bank.now pass.old }
     requires list { WritesList (shape_of bank.now) o table (view pass.old) }
     requires early { has_committed o (view pass.old).log ≡ false }
     requires places { (at < count - 1 - at) × (count ≤ slots (class_of (table_id table))) }
-    requires before { (values : List Value) × (length values ≡ count)
-        × IsTurning (class_of (table_id table)) values at (held_unboxed o (view pass.old)).table }
+    requires spare { HoldsSpare (shape_of bank.now) (view pass.old) }
     ensures pass { IsPassOf bank.now pass.new }
     ensures stack { stack_of pass.new ≡ stack_of pass.old }
     ensures list { WritesList (shape_of bank.now) o table (view pass.new) }
@@ -49,10 +51,15 @@ fn swap(bank: &Bank, pass: &mut Pass, o: u32, table: Table, count: u64, at: u64)
 {
     let last = count - 1 - at;
     let start = bank.cell_of(table);
-    let early = item(bank, pass, o, table, start, at);
-    let late = item(bank, pass, o, table, start, last);
-    put_item(bank, pass, o, table, start, at, late);
-    put_item(bank, pass, o, table, start, last, early);
+    let (kind, payload) = held_value(bank, pass, o, table, start, at);
+    let (late_kind, late_payload) = held_value(bank, pass, o, table, start, last);
+    if late_kind == kind && late_payload == payload {
+        return;
+    }
+    let late = carry_item(bank, pass, o, table, last, (0, 0));
+    let early = carry_item(bank, pass, o, table, at, late);
+    let nothing = carry_item(bank, pass, o, table, last, early);
+    let_go(bank, pass, o, table, nothing);
 }
 
 /// Swaps the first item with the last one, and so on up to the middle.
@@ -60,9 +67,8 @@ fn turn(bank: &Bank, pass: &mut Pass, o: u32, table: Table, count: u64)
     requires pass { IsPassOf bank.now pass.old }
     requires list { WritesList (shape_of bank.now) o table (view pass.old) }
     requires early { has_committed o (view pass.old).log ≡ false }
+    requires spare { HoldsSpare (shape_of bank.now) (view pass.old) }
     requires count { count ≤ slots (class_of (table_id table)) }
-    requires before { (values : List Value) × (length values ≡ count)
-        × IsPutting (class_of (table_id table)) values 0 count (stored_item values) (held_unboxed o (view pass.old)).table }
     ensures pass { IsPassOf bank.now pass.new }
     ensures stack { stack_of pass.new ≡ stack_of pass.old }
     ensures list { WritesList (shape_of bank.now) o table (view pass.new) }

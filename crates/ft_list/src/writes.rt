@@ -7,8 +7,7 @@ ghost use Rattle.ft_model.specs.declared.call.ListCall.{ListCall};
 ghost use Rattle.ft_model.specs.declared.content.Content.TheVariants as content;
 ghost use Rattle.ft_model.specs.declared.data.Value.{Value};
 ghost use Rattle.ft_model.specs.declared.reply.Reply.TheVariants as reply;
-ghost use Rattle.ft_layout.specs.declared.slot.Stored.{Stored};
-ghost use Rattle.ft_layout.specs.declared.slot.Stored.TheVariants.{Empty, Plain};
+ghost use Rattle.ft_layout.specs.declared.slot.Stored.TheVariants.{Plain};
 ghost use Rattle.ft_layout.specs.Containers.{IsBlock};
 ghost use Rattle.ft_layout.specs.Words.{FitsStored, IsStored, stored_kind, stored_payload};
 ghost use Rattle.ft_trace.specs.declared.Act.TheVariants.{StartWrite};
@@ -16,15 +15,16 @@ ghost use Rattle.ft_trace.specs.Acts.{has_committed};
 ghost use Rattle.ft_trace.specs.Addresses.{class_of, slots};
 ghost use Rattle.ft_trace.specs.Boxes.{names_box, place_use, references_held, use_taken};
 ghost use Rattle.ft_trace.specs.BoxWords.{box_kind};
-ghost use Rattle.ft_trace.specs.Holds.{held_unboxed, known_state};
+ghost use Rattle.ft_trace.specs.Holds.{held_words, held_unboxed, known_state};
 ghost use Rattle.ft_trace.specs.Pictures.{item_field, root_in};
-ghost use Rattle.ft_bank.specs.BoxSteps.{HasReferenceFor};
+ghost use Rattle.ft_bank.specs.BoxSteps.{kind_read, payload_read, HasReferenceFor};
 ghost use Rattle.ft_bank.specs.Passes.{shape_of, view, IsPassOf, Did};
 ghost use Rattle.ft_bank.specs.PassSections.{stack_of};
 ghost use Rattle.ft_bank.specs.TableNames.{table_id, IsPlaceOf};
 ghost use Rattle.ft_bank.specs.SameBoxes.{SameReferences};
 ghost use Rattle.ft_bank.specs.Whole.{OnlyLoaded, OnlyWritten, Wrote};
 ghost use Rattle.ft_list.specs.ListItemWrites.{ReadsAs, WritesList, IsPutting, known_items, stored_item};
+ghost use Rattle.ft_list.specs.Internal.Carrying.{HoldsFewBut, HoldsSpare};
 ghost use Rattle.ft_list.specs.Internal.Moving.{IsMoving};
 ghost use Rattle.ft_list.specs.Internal.StoredBoxes.{StoresBox};
 ghost use Rattle.ft_list.specs.ListWrites.{MayBeginList, MayWriteList, Changes};
@@ -32,7 +32,7 @@ ghost use Rattle.ft_list.specs.Internal.Additions.{count_in, with_added, IsAddit
 ghost use Rattle.ft_search.specs.OneEntryWrites.{HasTable};
 
 use crate::addition::{Addition, added_count, first_place, put_added};
-use crate::items::{finish, item, put_item};
+use crate::items::{carry_item, finish, let_go, put_item};
 use ft_bank::{Bank, Pass, Table};
 use ft_layout::{Stored, block_word};
 use ft_model::{Call, Reply, Value};
@@ -93,6 +93,9 @@ pub(crate) fn set_item(
     ensures references { (b : ℕ) → references_held (shape_of bank.now) b (view pass.new).log
         + names_box b (stored_kind stored) (stored_payload stored)
         ≡ references_held (shape_of bank.now) b (view pass.old).log }
+    ensures boxed { stored_kind stored ≡ box_kind →
+        (item_field (held_words o (view pass.new)).table place 1 ≡ stored_kind stored)
+        × (item_field (held_words o (view pass.new)).table place 2 ≡ stored_payload stored) }
     ensures stored { (b : ℕ) → place_use b (view pass.new).log ≢ use_taken }
 {
     let _ = value;
@@ -102,7 +105,8 @@ pub(crate) fn set_item(
     finish(bank, pass, o, table, called, said, place, place + 1)
 }
 
-/// Puts a value at a place, and each item from there on at the next one.
+/// Puts a value at a place, and carries each item from there on to the next one, with the box that it names. The value is
+/// given as its kind and its payload stand: for a box that they name the pass holds a reference, which is the list's then.
 #[inline(always)]
 pub(crate) fn shift_up(
     bank: &Bank,
@@ -111,33 +115,33 @@ pub(crate) fn shift_up(
     table: Table,
     place: u64,
     count: u64,
-    value: Value,
+    given: (u64, u64),
 )
     requires pass { IsPassOf bank.now pass.old }
     requires list { WritesList (shape_of bank.now) o table (view pass.old) }
     requires early { has_committed o (view pass.old).log ≡ false }
     requires place { (place ≤ count) × (count < slots (class_of (table_id table))) }
-    requires value { FitsStored (Plain value) }
-    requires before { (values : List Value) × (length values ≡ count)
-        × IsPutting (class_of (table_id table)) values place (count + 1) (stored_item values) (held_unboxed o (view pass.old)).table }
+    requires own { HasReferenceFor (view pass.old) given.0 given.1 }
+    requires spare { HoldsFewBut (shape_of bank.now) given.0 given.1 (view pass.old) }
     ensures pass { IsPassOf bank.now pass.new }
     ensures stack { stack_of pass.new ≡ stack_of pass.old }
     ensures list { WritesList (shape_of bank.now) o table (view pass.new) }
     ensures only { OnlyWritten o (view pass.old) (view pass.new) }
-    ensures references { SameReferences (view pass.old) (view pass.new) }
+    ensures references { (b : ℕ) → references_held (shape_of bank.now) b (view pass.new).log + names_box b given.0 given.1
+        ≡ references_held (shape_of bank.now) b (view pass.old).log }
     ensures block { (held_unboxed o (view pass.new)).block ≡ (held_unboxed o (view pass.old)).block }
-    ensures moved { (values : List Value) → length values ≡ count →
+    ensures moved { (value : Value) →
+        IsStored (kind_read (view pass.old) given.0 given.1) (payload_read (view pass.old) given.0 given.1) (Plain value) →
+        (values : List Value) → length values ≡ count →
         IsPutting (class_of (table_id table)) values place (count + 1) (stored_item values) (held_unboxed o (view pass.old)).table →
         IsMoving (class_of (table_id table)) values (insert values place value) place (count + 1) (count + 1)
         (held_unboxed o (view pass.new)).table }
 {
-    let start = bank.cell_of(table);
-    let mut carried = Stored::Plain(value);
+    let mut carried = given;
     for at in place..count + 1 {
-        let found = item(bank, pass, o, table, start, at);
-        put_item(bank, pass, o, table, start, at, carried);
-        carried = found;
+        carried = carry_item(bank, pass, o, table, at, carried);
     }
+    let_go(bank, pass, o, table, carried);
 }
 
 /// Puts a value after the last item, of that many.
@@ -205,15 +209,15 @@ pub(crate) fn add_items(
     )
 }
 
-/// Takes out the item at a place: each item after it goes one place down, and nothing is stored where the
-/// last one was.
+/// Takes out the item at a place: each item after it is carried one place down, with the box that it names, from the last
+/// one on, and nothing is stored where that one was. The reference of a box which the item names that is taken out is
+/// dropped.
 fn shift_down(bank: &Bank, pass: &mut Pass, o: u32, table: Table, place: u64, count: u64)
     requires pass { IsPassOf bank.now pass.old }
     requires list { WritesList (shape_of bank.now) o table (view pass.old) }
     requires early { has_committed o (view pass.old).log ≡ false }
     requires place { (place < count) × (count ≤ slots (class_of (table_id table))) }
-    requires before { (values : List Value) × (length values ≡ count)
-        × IsPutting (class_of (table_id table)) values place count (stored_item values) (held_unboxed o (view pass.old)).table }
+    requires spare { HoldsSpare (shape_of bank.now) (view pass.old) }
     ensures pass { IsPassOf bank.now pass.new }
     ensures stack { stack_of pass.new ≡ stack_of pass.old }
     ensures list { WritesList (shape_of bank.now) o table (view pass.new) }
@@ -225,42 +229,12 @@ fn shift_down(bank: &Bank, pass: &mut Pass, o: u32, table: Table, place: u64, co
         IsMoving (class_of (table_id table)) values (remove values place) place count count
         (held_unboxed o (view pass.new)).table }
 {
-    let start = bank.cell_of(table);
-    for at in place..count {
-        let next = item_or_none(bank, pass, o, table, start, at + 1, count);
-        put_item(bank, pass, o, table, start, at, next);
+    let mut carried = (0, 0);
+    for done in place..count {
+        let at = place + (count - 1 - done);
+        carried = carry_item(bank, pass, o, table, at, carried);
     }
-}
-
-/// What a list stores at a place, which is nothing past its last item.
-fn item_or_none(
-    bank: &Bank,
-    pass: &mut Pass,
-    o: u32,
-    table: Table,
-    start: u64,
-    place: u64,
-    count: u64,
-) -> Stored
-    requires pass { IsPassOf bank.now pass.old }
-    requires list { WritesList (shape_of bank.now) o table (view pass.old) }
-    requires start { IsPlaceOf (shape_of bank.now) table start }
-    requires count { count ≤ slots (class_of (table_id table)) }
-    ensures pass { IsPassOf bank.now pass.new }
-    ensures stack { stack_of pass.new ≡ stack_of pass.old }
-    ensures list { WritesList (shape_of bank.now) o table (view pass.new) }
-    ensures only { OnlyLoaded (view pass.old) (view pass.new) }
-    ensures held { held_unboxed o (view pass.new) ≡ held_unboxed o (view pass.old) }
-    ensures stored { (stored : Stored) → (place < count → IsStored
-        (item_field (held_unboxed o (view pass.old)).table place 1) (item_field (held_unboxed o (view pass.old)).table place 2) stored) →
-        (count ≤ place → stored ≡ Empty) → result ≡ stored }
-    ensures fits { FitsStored result }
-{
-    if place < count {
-        item(bank, pass, o, table, start, place)
-    } else {
-        Stored::Empty
-    }
+    let_go(bank, pass, o, table, carried);
 }
 
 /// Takes the item at a place out of a list, as the write of this call: each item after it goes one place

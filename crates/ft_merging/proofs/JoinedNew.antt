@@ -11,7 +11,7 @@ use Rattle.ft_trace.specs.declared.Shape.{Shape}
 use Rattle.ft_trace.specs.declared.View.{View}
 use Rattle.ft_trace.specs.Acts.{has_committed}
 use Rattle.ft_trace.specs.Addresses.{class_of, slots}
-use Rattle.ft_trace.specs.Holds.{held_words, held_unboxed, in_hand, known_state}
+use Rattle.ft_trace.specs.Holds.{held_words, held_unboxed, hand_unboxed, known_state}
 use Rattle.ft_trace.specs.Kinds.{rows, under}
 use Rattle.ft_trace.specs.Traces.{IsReachable}
 use Rattle.ft_trace.specs.Pictures.{ContainerWords, entry_field, root_in, Represents}
@@ -25,11 +25,12 @@ use Rattle.ft_search.specs.Rounds.{kind_by}
 use Rattle.ft_search.specs.OneEntryWrites.{WritesEntries}
 use Rattle.ft_search.proofs.Changing.{kind_is}
 use Rattle.ft_new_keys.specs.declared.counts.Counts.{Counts}
-use Rattle.ft_new_keys.specs.Fresh.{IsFilledWith}
+use Rattle.ft_new_keys.specs.Moving.{HasMoved}
 use Rattle.ft_new_keys.specs.KeyGrowth.{BeginsIn, KnowsKeyed, MayGrowKeyed}
 use Rattle.ft_new_keys.specs.Placing.{AreCounts, counted}
 use Rattle.ft_new_keys.proofs.Keyed.{Heads, counts_known}
 use Rattle.ft_new_keys.proofs.Placed.{use_with}
+use Rattle.ft_new_keys.proofs.Grown.{grow_begins}
 use Rattle.ft_new_keys.proofs.Rooted.{filled_says}
 use Rattle.ft_merging.specs.Joining.{joined, new_keys}
 use Rattle.ft_merging.specs.Internal.JoiningSteps.{IsJoining, NoneGone}
@@ -41,8 +42,8 @@ use Rattle.ft_merging.proofs.JoinedReads.{knows_put}
 use Rattle.ft_merging.proofs.JoinedStarts.{knows_rooted}
 
 module _ (heads : Heads) (laws : Laws) (k : Shape) (o : ℕ) (by : Way) (old : Option Table) (new : Table) (t : ℕ) (table : Table) (counts : Counts) (more : ℕ) (x y z : View) (shape : x.shape ≡ k) (possible : ∥ IsReachable x ∥₁) (two : o ≢ t) (may : MayGrowKeyed k o old new x) (other : KnowsKeyed k t (Some table) x) (kind_eq : kind_in k.starts o ≡ kind_by by) (kind_t : kind_in k.starts t ≡ kind_by by)
-    (filled : IsFilledWith k.texts (class_of (table_id new)) (known_state o x).content (in_hand (table_id new) x)) (are : AreCounts (held_unboxed o x).block counts) (more_is : more ≡ new_keys (known_state o x).content (known_state t x).content) (cap : passes_cap (joined (known_state o x).content (known_state t x).content) ≡ false) (serials : serial_of (known_state o x).content + 65536 < 2 ^ 63) (room : counts.count + more ≤ rows (kind_in k.starts o) (class_of (table_id new)))
-    (begun : BeginsIn o new x y) (words : held_unboxed o y ≡ record { block = slice_set (held_unboxed o x).block 0 (suc (table_id new)); table = in_hand (table_id new) x })
+    (moved : HasMoved k o new x) (are : AreCounts (held_unboxed o x).block counts) (more_is : more ≡ new_keys (known_state o x).content (known_state t x).content) (cap : passes_cap (joined (known_state o x).content (known_state t x).content) ≡ false) (serials : serial_of (known_state o x).content + 65536 < 2 ^ 63) (room : counts.count + more ≤ rows (kind_in k.starts o) (class_of (table_id new)))
+    (begun : BeginsIn o new x y) (words : held_unboxed o y ≡ record { block = slice_set (held_unboxed o x).block 0 (suc (table_id new)); table = hand_unboxed o (table_id new) x })
     (only : OnlyWritten o y z) (put : held_unboxed o z ≡ record { block = counted (held_unboxed o y).block counts.count counts.count counts.next; table = (held_unboxed o y).table }) (writes : WritesEntries k o new z) (shape_z : z.shape ≡ k) (possible_z : ∥ IsReachable z ∥₁) where
   abbrev c : ℕ
   c = class_of (table_id new)
@@ -62,22 +63,22 @@ module _ (heads : Heads) (laws : Laws) (k : Shape) (o : ℕ) (by : Way) (old : O
   known_on : (p : ℕ) → known_state p x ≡ known_state p z
   known_on p = sym (work_knows y z p only.work ∙ (work_knows begun.rooted y p begun.only.work ∙ ap (known_state p) begun.is))
 
-  words_on : held_unboxed o z ≡ record { block = counted (slice_set (held_unboxed o x).block 0 (suc (table_id new))) counts.count counts.count counts.next; table = in_hand (table_id new) x }
+  words_on : held_unboxed o z ≡ record { block = counted (slice_set (held_unboxed o x).block 0 (suc (table_id new))) counts.count counts.count counts.next; table = hand_unboxed o (table_id new) x }
   words_on = put ∙ (λ i. record { block = counted (words i).block counts.count counts.count counts.next; table = (words i).table })
 
   stands : Represents k.texts (held_unboxed o z) (record { content = d; table = use_with c counts.count })
   stands =
-      let says = filled_says laws.pairs laws.elements heads k o old new x may shape possible filled in
+      let says = filled_says laws.pairs laws.elements heads k o old new x (grow_begins k o old new x shape may) shape possible moved in
       let n = many.0 in
       let r = many.1 in
-      let here : StandsAs k.texts (counted (slice_set (held_unboxed o x).block 0 (suc (table_id new))) counts.count counts.count counts.next) (0 ∷ 0 ∷ in_hand (table_id new) x) (use_with c counts.count) d =
-      subst (λ (w : ℕ × ℕ). StandsAs k.texts (counted (slice_set (held_unboxed o x).block 0 (suc (table_id new))) w.0 w.0 w.1) (0 ∷ 0 ∷ in_hand (table_id new) x) (use_with c w.0) d) (λ i. (sym n i, sym r i)) says in
+      let here : StandsAs k.texts (counted (slice_set (held_unboxed o x).block 0 (suc (table_id new))) counts.count counts.count counts.next) (0 ∷ 0 ∷ hand_unboxed o (table_id new) x) (use_with c counts.count) d =
+      subst (λ (w : ℕ × ℕ). StandsAs k.texts (counted (slice_set (held_unboxed o x).block 0 (suc (table_id new))) w.0 w.0 w.1) (0 ∷ 0 ∷ hand_unboxed o (table_id new) x) (use_with c w.0) d) (λ i. (sym n i, sym r i)) says in
       subst (λ (w : ContainerWords). Represents k.texts w (record { content = d; table = use_with c counts.count })) (sym words_on) here
 
   evens : (p : ℕ) → p < rows (kind_in k.starts o) c → version_of (table_id new) (held_unboxed o z) p % 2 ≡ 0
   evens p less =
-      let zero = filled.versions p (subst (λ (w : Kind). p < rows w c) (sym kinds) less) in
-      let same : version_of (table_id new) (held_unboxed o z) p ≡ entry_field (slots c) (in_hand (table_id new) x) p 0 = ap (λ (w : ContainerWords). version_of (table_id new) w p) words_on in
+      let zero = moved.versions p less in
+      let same : version_of (table_id new) (held_unboxed o z) p ≡ entry_field (slots c) (hand_unboxed o (table_id new) x) p 0 = ap (λ (w : ContainerWords). version_of (table_id new) w p) words_on in
       omega (arith, zero, same)
 
   alive : NoneGone (table_id new) (rows (kind_in k.starts o) c) (held_unboxed o z)

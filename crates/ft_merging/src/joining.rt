@@ -31,7 +31,9 @@ use ft_bank::{Bank, Pass, Table, Took};
 use ft_keys::Way;
 use ft_layout::{used_entries_follow_a_dict, used_entries_follow_a_set, words_are_of_one_content};
 use ft_model::{Call, Reply};
-use ft_new_keys::{Counts, begin_in, class_wanted, fill, most_keys, put_counts, read_counts};
+use ft_new_keys::{
+    Counts, Growth, begin_in, class_wanted, most_keys, move_entries, put_counts, read_counts,
+};
 use ft_qsbr::take;
 use ft_search::{write_nothing, written};
 use ft_section::Object;
@@ -112,7 +114,13 @@ fn join_in_new(
     used_entries_follow_a_set();
     words_are_of_one_content();
     let counts = merge.counts;
-    fill(bank, pass, merge.o, way, old, new, counts.fill);
+    let growth = Growth {
+        way,
+        old,
+        table: new,
+        fill: counts.fill,
+    };
+    move_entries(bank, pass, merge.o, &growth);
     begin_in(bank, pass, merge.o, way, old, new);
     put_counts(
         bank,

@@ -63,9 +63,3 @@ is_landed_call call.End = true
 is_landed_call call.Quiesce = true
 is_landed_call (call.Await thread index) = true
 is_landed_call call.Dump = false
-
--- ---- boxes
-
--- whether values that no word holds are stored in boxes: not yet, so that no call takes a place of a heap
-abbrev pub has_boxes : Bool
-has_boxes = false

@@ -95,7 +95,8 @@ pub record IsRightAfter
   pub counted :
       IfEnds (begins_of before) entry.call
       (λ begun. IsCountedAs (marks_since entry.thread before begun) entry.reply)
-  -- a MemoryError has its cause in the writes that it knows of, and stands where a table would be taken
+  -- a MemoryError has its cause in the writes that it knows of, and stands where a table or a place of the heap would be
+  -- taken
   pub earned : IsEarned storage script (take entry.stamp calls) before entry
   pub fitting : IsFitting storage script (take entry.stamp calls) entry
 
@@ -171,7 +172,8 @@ pub record IsNextEntry
 
 -- ---- the history of the entries
 
--- each MemoryError of a class stands on a call that would take a table of the class there (profile)
+-- each MemoryError of a class stands on a call that would take a table of the class there, and each of a heap on one
+-- that would put a value in a box (profile)
 abbrev pub AreFitting : Storage → ScriptParts → List Entry → Type 0
 AreFitting storage script entries =
     EachAt entries (λ place entry. IsFitting storage script (writes (take place entries)) entry)

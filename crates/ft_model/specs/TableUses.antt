@@ -29,7 +29,6 @@ use Rattle.ft_model.specs.Contents.{DictContent, SetContent}
 use Rattle.ft_model.specs.Keys.{same_key}
 use Rattle.ft_model.specs.Views.{keys_in}
 use Rattle.ft_model.specs.Boxings.{boxes, boxings}
-use Rattle.ft_model.specs.Landed.{has_boxes}
 use Rattle.ft_model.specs.Worlds.{starts_of, start_in, empty_world, dict_at, list_at, set_at, deque_at, named_in, no_hands}
 use Rattle.ft_model.specs.Answers.{answer, after_write, is_memory, is_raised}
 
@@ -330,12 +329,10 @@ pub record CanLackLeaving (starts : List Start) (world : List Content) (call : C
   pub leaves : can_leave_split starts call ≡ true
   pub raises_nothing : is_raised (answer world no_hands call).reply ≡ false
 
--- a MemoryError of a heap stands on a call that puts a value in a box, which raises nothing else there and passes no
--- largest table, where the thread's boxings are no fewer than the heap's places; so on none before values are stored in
--- boxes
+-- a MemoryError of a heap stands on a call that would put a value in a box, which raises nothing else there and passes
+-- no largest table, where the thread's own boxings before it are no fewer than the heap's places
 pub record IsHeapEarned (starts : List Start) (heap : ℕ) (calls : List Call) (mine : List Entry)
     (call : Call) : Type 0 where
-  pub landed : has_boxes ≡ true
   pub boxes : boxes (stored_by starts calls).world call ≡ true
   pub raises_nothing : is_raised (answer (stored_by starts calls).world no_hands call).reply ≡ false
   pub passes_nothing : would_pass (stored_by starts calls).world call ≡ false

@@ -63,6 +63,7 @@ pub record FreshRan (s : FreshWords) (calls : List Access) (t : FreshWords) : Ty
   pub old_mask : t.old_mask ≡ s.old_mask
   pub table : t.table ≡ s.table
   pub mask : t.mask ≡ s.mask
+  pub in_place : t.in_place ≡ s.in_place
   pub only : OnlyFilled (view s.pass.now) (view t.pass.now)
   pub words : fresh_words t ≡ after s.mask calls (fresh_words s)
   pub words_old : old_words t ≡ old_words s
@@ -70,7 +71,7 @@ pub record FreshRan (s : FreshWords) (calls : List Access) (t : FreshWords) : Ty
   pub fits_old : FitsOld s.old_mask calls (old_words s)
 
 pub ran_fresh : (s : FreshWords) (calls : List Access) (t : FreshWords) → Runs FreshMade s calls t → FreshRan s calls t
-ran_fresh s [] t r = subst (λ (z : FreshWords). FreshRan s [] z) r (record { bank = refl; pass = refl; stack = refl; o = refl; old = refl; old_mask = refl; table = refl; mask = refl; only = filled_same (view s.pass.now); words = refl; words_old = refl; fits = tt; fits_old = tt })
+ran_fresh s [] t r = subst (λ (z : FreshWords). FreshRan s [] z) r (record { bank = refl; pass = refl; stack = refl; o = refl; old = refl; old_mask = refl; table = refl; mask = refl; in_place = refl; only = filled_same (view s.pass.now); words = refl; words_old = refl; fits = tt; fits_old = tt })
 ran_fresh s (a ∷ calls) t r =
     let m = r.0 in
     let x = ran_fresh s calls m r.1 in
@@ -86,6 +87,7 @@ ran_fresh s (a ∷ calls) t r =
       old_mask = g.old_mask ∙ x.old_mask;
       table = g.table ∙ x.table;
       mask = g.mask ∙ x.mask;
+      in_place = g.in_place ∙ x.in_place;
       only = filled_then (view s.pass.now) (view m.pass.now) (view t.pass.now) x.only g.only;
       words = g.left ∙ (λ d. put_by (x.mask d) a (x.words d));
       words_old = g.left_old ∙ x.words_old;
@@ -226,7 +228,7 @@ module _ (holds : BlankHolds) (pairs_live : LivePairs) (elements_live : LiveElem
   abbrev mask : ℕ
   mask = class_mask class
 
-  zero_versions : (place : ℕ) → entry_field (slots class) made place 0 ≡ 0
+  pub zero_versions : (place : ℕ) → entry_field (slots class) made place 0 ≡ 0
   zero_versions place =
       sym (word_here class made place 0)
       ∙ (ap (λ (l : List ℕ). entry_word mask l place 0) is_made

@@ -20,8 +20,8 @@ use Rattle.ft_bank.proofs.KnownAfterWrites.{work_knows, written_then}
 use Rattle.ft_table_calls.specs.Adding.{OnlyFilled}
 use Rattle.ft_table_calls.proofs.Rooting.{filled_wrote, rooted_write}
 use Rattle.ft_search.specs.OneEntryWrites.{Leaves}
-use Rattle.ft_search.proofs.Puts.{done_then}
-use Rattle.ft_new_keys.specs.KeyGrowth.{BeginsIn, KnowsKeyed, MayGrowKeyed}
+use Rattle.ft_search.proofs.Puts.{done_then, few_done}
+use Rattle.ft_new_keys.specs.KeyGrowth.{BeginsIn, KnowsKeyed, MayBeginKeyed, MayGrowKeyed}
 
 -- what a pass knows of a container stays, where it knows the same words and the same content
 pub knows_on : (k : Shape) (o : ℕ) (old : Option Table) (v w : View) → held_unboxed o w ≡ held_unboxed o v → known_state o w ≡ known_state o v → has_lock o w.log ≡ has_lock o v.log → is_writing o w.log ≡ is_writing o v.log → KnowsKeyed k o old v → KnowsKeyed k o old w
@@ -57,6 +57,18 @@ grow_filled k o old table v x shape only may = record {
   table_in = may.table_in;
   boxes = done_then k v x shape only.work.pass.shape only.references only.made may.boxes;
   left = subst (λ (n : ℕ). 0 < n) (sym only.work.left) may.left;
+}
+
+-- who may add a key there may put the table into the root
+pub grow_begins : (k : Shape) (o : ℕ) (old : Option Table) (table : Table) (v : View) → v.shape ≡ k → MayGrowKeyed k o old table v → MayBeginKeyed k o old table v
+grow_begins k o old table v shape may = record {
+  keyed = may.keyed;
+  even = may.even;
+  used = may.used;
+  fresh = may.fresh;
+  table_in = may.table_in;
+  settled = may.boxes.settled;
+  few = few_done k v shape may.boxes;
 }
 
 pub filled_has : (v x : View) → OnlyFilled v x → (found : StoredWorld) → MayHave x found → MayHave v found

@@ -14,3 +14,9 @@ pub mod Taken
 pub mod Present
 pub mod Cursors
 pub mod OldValues
+pub mod RawTables
+pub mod MovedTables
+pub mod NamedValues
+pub mod MovedFills
+pub mod GoneEntries
+pub mod UnstoredBoxes

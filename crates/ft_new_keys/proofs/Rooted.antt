@@ -1,5 +1,5 @@
 -- A dict or a set that gets another table, filled with what it has: that the root may be put, and what a new key finds there.
-use Rattle.std.proofs.Common.{◌≡◌, ◌≢◌, ℕ, suc, ◌^◌, ◌<◌, true, true≢false, List, ◌∷◌, filter, Option, Some, None, sym, ap, ◌∙◌, subst, arith, length-set, get_or-set_same, get_or-set_other}
+use Rattle.std.proofs.Common.{◌≡◌, ◌≢◌, ℕ, suc, ◌^◌, ◌<◌, ◌≤◌, true, true≢false, List, ◌∷◌, filter, Option, Some, None, sym, ap, ◌∙◌, subst, arith, length-set, get_or-set_same, get_or-set_other}
 use Rattle.std.specs.Prelude.{All, is_some, slice_index, slice_set}
 use Rattle.std.specs.Option.{unwrap_or}
 use Rattle.ft_model.specs.declared.content.Content.{Content}
@@ -20,21 +20,24 @@ use Rattle.ft_trace.specs.declared.Act.TheVariants.{StartWrite}
 use Rattle.ft_trace.specs.declared.Shape.{Shape}
 use Rattle.ft_trace.specs.declared.View.{View}
 use Rattle.ft_trace.specs.Acts.{is_writing, mem, view_after, stage}
-use Rattle.ft_trace.specs.Addresses.{class_of}
+use Rattle.ft_trace.specs.Addresses.{class_of, container_count, slots}
 use Rattle.ft_trace.specs.Boxes.{named_in_root, known_box_word}
-use Rattle.ft_trace.specs.Holds.{held_unboxed, known_state, in_hand, hand_unboxed}
+use Rattle.ft_trace.specs.Holds.{held_words, held_unboxed, known_state, in_hand, hand_unboxed}
 use Rattle.ft_trace.specs.Kinds.{rows, version_at, SoundAs, IsKeyed}
 use Rattle.ft_trace.specs.OddVersions.{Shut}
 use Rattle.ft_trace.specs.Traces.{IsReachable}
 use Rattle.ft_trace.specs.ContainerStates.{kind_in}
+use Rattle.ft_trace.specs.Pictures.{root_in, entry_field}
 use Rattle.ft_trace.proofs.ByKind.{keyed_fit}
 use Rattle.ft_trace.proofs.Cases.{hit}
 use Rattle.ft_trace.proofs.DictWrites as dict
 use Rattle.ft_trace.proofs.DictWrites.{FirstEntriesArePairs}
 use Rattle.ft_trace.proofs.Pieces.{table_long}
+use Rattle.ft_trace.proofs.ReadTables.{rows_long}
 use Rattle.ft_trace.proofs.SetKnown as set
 use Rattle.ft_trace.proofs.SetKnown.{FirstEntriesAreElements}
 use Rattle.ft_bank.specs.declared.table.Table.{Table}
+use Rattle.ft_bank.specs.SameBoxes.{named_in_words}
 use Rattle.ft_bank.specs.TableNames.{table_id, IsTableIn}
 use Rattle.ft_bank.specs.WriteSteps.{IsShut, MayPutRoot}
 use Rattle.ft_bank.proofs.TableAddresses.{class_is, named}
@@ -42,11 +45,12 @@ use Rattle.ft_search.specs.Held.{IsHeldAt}
 use Rattle.ft_search.specs.Rounds.{kind_by}
 use Rattle.ft_search.proofs.Changing.{kind_is, shut_known}
 use Rattle.ft_search.proofs.WordPlaces.{slots_of_class}
-use Rattle.ft_search.proofs.Puts.{few_done, keyed_value, keyed_version, table_class}
-use Rattle.ft_table_calls.proofs.PlainTables.{ArePlain, plain_named, plain_reads}
+use Rattle.ft_search.proofs.Puts.{keyed_version, table_class}
 use Rattle.ft_new_keys.specs.declared.counts.Counts.{Counts}
-use Rattle.ft_new_keys.specs.Fresh.{IsFilledWith}
-use Rattle.ft_new_keys.specs.KeyGrowth.{MayGrowKeyed, IsFreeFor}
+use Rattle.ft_new_keys.specs.Moving.{live_in_root, HasMoved}
+use Rattle.ft_new_keys.proofs.GoneEntries.{split_names}
+use Rattle.ft_new_keys.proofs.UnstoredBoxes.{taken_unnamed}
+use Rattle.ft_new_keys.specs.KeyGrowth.{MayBeginKeyed, IsFreeFor}
 use Rattle.ft_new_keys.specs.Placing.{AreCounts, StoresAs, counted}
 use Rattle.ft_new_keys.proofs.Keyed.{Heads, way_is, counts_known}
 use Rattle.ft_new_keys.proofs.Placed.{Fresh, use_with, none_used, counted_head, kind_shut}
@@ -97,7 +101,7 @@ rooted_head b class k table count fill next h table_in =
 
 -- ---- the root
 
-module _ (first_pair : FirstEntriesArePairs) (first_element : FirstEntriesAreElements) (heads : Heads) (k : Shape) (o : ℕ) (old : Option Table) (table : Table) (v : View) (may : MayGrowKeyed k o old table v) (shape : v.shape ≡ k) (possible : ∥ IsReachable v ∥₁) (filled : IsFilledWith k.texts (class_of (table_id table)) (known_state o v).content (in_hand (table_id table) v)) where
+module _ (first_pair : FirstEntriesArePairs) (first_element : FirstEntriesAreElements) (heads : Heads) (k : Shape) (o : ℕ) (old : Option Table) (table : Table) (v : View) (may : MayBeginKeyed k o old table v) (shape : v.shape ≡ k) (possible : ∥ IsReachable v ∥₁) (moved : HasMoved k o table v) where
   abbrev c : ℕ
   c = class_of (table_id table)
 
@@ -105,7 +109,7 @@ module _ (first_pair : FirstEntriesArePairs) (first_element : FirstEntriesAreEle
   d = (known_state o v).content
 
   abbrev ws : List ℕ
-  ws = in_hand (table_id table) v
+  ws = hand_unboxed o (table_id table) v
 
   abbrev b : List ℕ
   b = slice_set (held_unboxed o v).block 0 (suc (table_id table))
@@ -126,7 +130,7 @@ module _ (first_pair : FirstEntriesArePairs) (first_element : FirstEntriesAreEle
   before = counted b (length_of d) (length_of d) (serial_of d)
 
   pub filled_says : StandsAs k.texts before (0 ∷ 0 ∷ ws) (use_with c (length_of d)) d
-  filled_says = filled.says before (counted_head b (Some c) (length_of d) (known_state o v).table.fill (serial_of d) (length_of d) (length_of d) (serial_of d) head)
+  filled_says = moved.says before (counted_head b (Some c) (length_of d) (known_state o v).table.fill (serial_of d) (length_of d) (length_of d) (serial_of d) head)
 
   the_one : (t : Table) → Some table ≡ Some t → table ≡ t
   the_one t e = ap (λ (z : Option Table). unwrap_or z table) e
@@ -140,22 +144,24 @@ module _ (first_pair : FirstEntriesArePairs) (first_element : FirstEntriesAreEle
   sound_here : SoundAs (kind_in v.shape.starts o) v.shape.texts c ws d
   sound_here = subst (λ (z : Kind × List ℕ). SoundAs z.0 z.1 c ws d) (λ i. (kind_v i, texts_v i)) (sound_in first_pair first_element k.texts before ws c (length_of d) d keyed_d is_class filled_says)
 
+  -- each version is 0
+  version_zero : (p : ℕ) → p < rows (kind_of d) c → entry_field (slots c) ws p 0 ≡ 0
+  version_zero p low = moved.versions p (subst (λ (z : Kind). p < rows z c) content_kind low)
+
   young_here : (p : ℕ) → p < rows (kind_in v.shape.starts o) c → slice_index ws (version_at (kind_in v.shape.starts o) c p) ≡ 0
   young_here =
       subst (λ (z : Kind). (p : ℕ) → p < rows z c → slice_index ws (version_at z c p) ≡ 0) kind_v
-      (λ p low. ap (slice_index ws) (keyed_version (kind_of d) keyed_d c p) ∙ filled.versions p low)
+      (λ p low. ap (slice_index ws) (keyed_version (kind_of d) keyed_d c p) ∙ version_zero p low)
 
-  -- its values all stand in place
-  pub plain_here : ArePlain (kind_in v.shape.starts o) c ws (rows (kind_in v.shape.starts o) c)
-  plain_here =
-      subst (λ (z : Kind). ArePlain z c ws (rows z c)) kind_v
-      (λ p low four. filled.plain p low (ap (slice_index ws) (sym (keyed_value (kind_of d) keyed_d c p)) ∙ four))
+  -- it names no box more often than the table that the root names
+  abbrev named_new : ℕ → ℕ
+  named_new b = named_in_root b (kind_in v.shape.starts o) (suc (table_id table)) (in_hand (table_id table) v)
 
-  pub reads_here : hand_unboxed o (table_id table) v ≡ ws
-  reads_here = plain_reads (λ b i. known_box_word v.shape b i v.log) (kind_in v.shape.starts o) (table_id table) ws plain_here
-
-  names_none : (b : ℕ) → named_in_root b (kind_in v.shape.starts o) (suc (table_id table)) ws ≡ 0
-  names_none b = plain_named b (table_id table) (kind_in v.shape.starts o) ws plain_here
+  names_fewer : (b : ℕ) → named_new b ≤ named_in_words b (kind_in v.shape.starts o) (held_words o v)
+  names_fewer b =
+      let names = (λ d. named_in_root b (kind_in (shape d).starts o) (suc (table_id table)) (in_hand (table_id table) v)) ∙ (moved.names b ∙ (λ d. live_in_root b (kind_in (sym shape d).starts o) (root_in (held_words o v)) (held_words o v).table)) in
+      let both = split_names b (kind_in v.shape.starts o) (root_in (held_words o v)) (held_words o v).table in
+      omega (arith, names, both)
 
   shut_here : IsShut o v
   shut_here t names = subst (λ (z : Kind). Shut (version_at z (class_of t)) (rows z (class_of t)) (held_unboxed o v).table) kind_v (shut_known k v o t shape possible may.keyed.container may.keyed.locked may.keyed.even names)
@@ -165,25 +171,28 @@ module _ (first_pair : FirstEntriesArePairs) (first_element : FirstEntriesAreEle
     odd = hit o true (is_writing o v.log);
     fresh = λ t e. subst (λ (z : Table). stage (table_id z) v.log ≡ 1) (the_one t e) may.fresh;
     sound = λ t e. subst (λ (z : Table). SoundAs (kind_in v.shape.starts o) v.shape.texts (class_of (table_id z)) (hand_unboxed o (table_id z) v) d) (the_one t e)
-        (subst (λ (l : List ℕ). SoundAs (kind_in v.shape.starts o) v.shape.texts c l d) (sym reads_here) sound_here);
+        sound_here;
     young = λ t p e row.
         let here = subst (λ (z : Table). (q : ℕ) → q < rows (kind_in v.shape.starts o) (class_of (table_id z)) → slice_index (hand_unboxed o (table_id z) v) (version_at (kind_in v.shape.starts o) (class_of (table_id z)) q) ≡ 0) (the_one t e)
-        (λ q low. ap (λ (l : List ℕ). slice_index l (version_at (kind_in v.shape.starts o) c q)) reads_here ∙ young_here q low) p row in
+        young_here p row in
         (omega (arith, here), (λ late. here));
     shut = shut_here;
     spare = λ some_one. may.used;
     early = λ e. absurd (true≢false (ap is_some e));
     references = record {
-      few = few_done k v shape may.boxes;
-      enough = λ b. let none = names_none b in omega (arith, none);
-      known = λ b none some. absurd (some (names_none b));
-      stored = λ b taken. names_none b;
+      few = may.few;
+      enough = λ b. let fewer = names_fewer b in omega (arith, fewer);
+      known = λ b none some. absurd (some (let fewer = names_fewer b in omega (arith, fewer, none)));
+      stored = λ b taken.
+          let fewer = names_fewer b in
+          let none = taken_unnamed v o b possible (subst (λ (z : Shape). o < container_count z) (sym shape) may.keyed.container) may.keyed.locked may.keyed.even taken in
+          omega (arith, fewer, none);
     };
   }
 
   -- no version is odd there
   pub shut_rooted : Shut (version_at (kind_of d) c) (rows (kind_of d) c) ws
-  shut_rooted = kind_shut (kind_of d) keyed_d c (rows (kind_of d) c) ws (λ p less. let z = filled.versions p less in omega (arith, z))
+  shut_rooted = kind_shut (kind_of d) keyed_d c (rows (kind_of d) c) ws (λ p less. let z = version_zero p less in omega (arith, z))
 
   -- a new key there
   pub fresh_rooted : (by : Way) → kind_in k.starts o ≡ kind_by by → (slot : ℕ) (counts : Counts) (key : Key) (stored : Stored) → AreCounts (held_unboxed o v).block counts → FitsKey key → hash_of k.texts key < 2 ^ 64 → StoresAs (kind_by by) stored → FitsStored stored → IsHeldAt d key None → IsFreeFor k.texts by table.class key ws slot → counts.count < rows (kind_by by) c
@@ -195,7 +204,7 @@ module _ (first_pair : FirstEntriesArePairs) (first_element : FirstEntriesAreEle
       let some = slots_of_class c in
       let slot_low = free.0 in
       let last : class_mask table.class ≡ class_mask c = ap class_mask (sym same) in
-      let long = table_long v.shape (table_id table) (mem v.shape v.log) in
+      let long = rows_long (λ b i. known_box_word v.shape b i v.log) (kind_in v.shape.starts o) c (rows (kind_in v.shape.starts o) c) (in_hand (table_id table) v) ∙ table_long v.shape (table_id table) (mem v.shape v.log) in
       record {
         is_class = is_class;
         keyed = keyed_d;
@@ -213,5 +222,5 @@ module _ (first_pair : FirstEntriesArePairs) (first_element : FirstEntriesAreEle
         in_index = omega (arith, some, slot_low, last);
         free = subst (λ (z : Way × ℕ). FirstFree (0 ∷ 0 ∷ ws) (walk_slots z.0 (hash_of k.texts key) (class_mask z.1)) (Some slot)) (λ i. (sym (way_is d by kinds) i, sym same i)) free.1;
         absent = absent;
-        even = let z = filled.versions counts.count (subst (λ (y : Kind). counts.count < rows y c) (sym kinds) room) in omega (arith, z);
+        even = let z = version_zero counts.count (subst (λ (y : Kind). counts.count < rows y c) (sym kinds) room) in omega (arith, z);
       }

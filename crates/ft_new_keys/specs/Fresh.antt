@@ -1,5 +1,5 @@
 -- A table that is fresh in the pass's hand, as it is filled with what a dict or a set has.
-use Rattle.std.specs.Prelude.{◌≡◌, ◌≢◌, ℕ, suc, ◌<◌, true, false, List, [], ◌∷◌, Some, length, slice_index}
+use Rattle.std.specs.Prelude.{◌≡◌, ◌≢◌, ℕ, suc, ◌<◌, true, false, List, [], ◌∷◌, Some, if◌then◌else◌, length, slice_index}
 use Rattle.ft_model.specs.declared.content.Content.{Content}
 use Rattle.ft_model.specs.Worlds.{kind_of, length_of, serial_of}
 use Rattle.ft_layout.specs.Containers.{class_mask, IsBlock, StandsAs}
@@ -7,7 +7,7 @@ use Rattle.ft_keys.specs.declared.words.Access.{Access}
 use Rattle.ft_keys.specs.Accesses.{Tells, TellsOld, put_by}
 use Rattle.ft_trace.specs.Acts.{has_lock, is_writing, stage}
 use Rattle.ft_trace.specs.Addresses.{container_count, class_of, slots, size}
-use Rattle.ft_trace.specs.Holds.{held_unboxed, in_hand}
+use Rattle.ft_trace.specs.Holds.{held_words, held_unboxed, in_hand}
 use Rattle.ft_trace.specs.ContainerStates.{kind_in}
 use Rattle.ft_trace.specs.Kinds.{rows, IsKeyed}
 use Rattle.ft_trace.specs.Pictures.{root_in, entry_field}
@@ -32,12 +32,14 @@ pub record CanFill (s : FreshWords) : Type 0 where
   pub fresh : stage (table_id s.table) (view s.pass.now).log ≡ 1
   pub mask : s.mask ≡ class_mask s.table.class
 
--- the words of the new table and what those of the old one read, after headers that say nothing
+-- the words of the new table, and of the old one what they read where the new one gets values in place, else as they
+-- stand; after headers that say nothing
 abbrev pub fresh_words : FreshWords → List ℕ
 fresh_words s = 0 ∷ 0 ∷ in_hand (table_id s.table) (view s.pass.now)
 
 abbrev pub old_words : FreshWords → List ℕ
-old_words s = 0 ∷ 0 ∷ (held_unboxed s.o (view s.pass.now)).table
+old_words s =
+    0 ∷ 0 ∷ (if s.in_place then held_unboxed s.o (view s.pass.now) else held_words s.o (view s.pass.now)).table
 
 -- how many entries the old one has
 abbrev pub old_entries : FreshWords → ℕ
@@ -53,6 +55,7 @@ pub record FreshMade (s : FreshWords) (access : Access) (t : FreshWords) : Type 
   pub old_mask : t.old_mask ≡ s.old_mask
   pub table : t.table ≡ s.table
   pub mask : t.mask ≡ s.mask
+  pub in_place : t.in_place ≡ s.in_place
   pub only : OnlyFilled (view s.pass.now) (view t.pass.now)
   pub tells : Tells s.mask access (fresh_words s)
   pub tells_old : TellsOld s.old_mask access (old_words s)

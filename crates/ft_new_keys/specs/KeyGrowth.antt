@@ -22,7 +22,7 @@ use Rattle.ft_trace.specs.declared.Shape.{Shape}
 use Rattle.ft_trace.specs.declared.View.{View}
 use Rattle.ft_trace.specs.Acts.{has_lock, is_writing, owes, stage, used, flight, view_after}
 use Rattle.ft_trace.specs.Addresses.{container_count, class_of}
-use Rattle.ft_trace.specs.Boxes.{named_in_root, references_held, IsDoneWithBoxes}
+use Rattle.ft_trace.specs.Boxes.{named_in_root, references_held, IsDoneWithBoxes, IsSettled}
 use Rattle.ft_trace.specs.FitCalls.{FitsCall}
 use Rattle.ft_trace.specs.Holds.{held_words, held_unboxed, known_state}
 use Rattle.ft_trace.specs.Kinds.{IsKeyed}
@@ -31,7 +31,7 @@ use Rattle.ft_trace.specs.Pictures.{root_in, Represents}
 use Rattle.ft_trace.specs.ContainerStates.{state_at, kind_in, changes}
 use Rattle.ft_bank.specs.declared.table.Table.{Table}
 use Rattle.ft_bank.specs.TableNames.{table_id, root_for, words_for, IsTableIn}
-use Rattle.ft_bank.specs.SameBoxes.{MovesReferences}
+use Rattle.ft_bank.specs.SameBoxes.{HoldsFew, MovesReferences}
 use Rattle.ft_bank.specs.Whole.{OnlyLoaded, OnlyWritten}
 use Rattle.ft_bank.specs.WriteSteps.{KeepsUnwritten, MayHave}
 use Rattle.ft_table_calls.specs.declared.adding.Added.{Added}
@@ -74,6 +74,17 @@ pub record MayGrowKeyed (k : Shape) (o : ℕ) (old : Option Table) (table : Tabl
   pub table_in : IsTableIn k table
   pub boxes : IsDoneWithBoxes k v.log
   pub left : 0 < v.left
+
+-- It has such a table and may put it into the root: it may hold few references for boxes, where what it has to do with its
+-- own boxes is settled. (profile)
+pub record MayBeginKeyed (k : Shape) (o : ℕ) (old : Option Table) (table : Table) (v : View) : Type 0 where
+  pub keyed : KnowsKeyed k o old v
+  pub even : (p : ℕ) → is_writing p v.log ≡ false
+  pub used : used v.log ≡ false
+  pub fresh : stage (table_id table) v.log ≡ 1
+  pub table_in : IsTableIn k table
+  pub settled : IsSettled v.log
+  pub few : HoldsFew v
 
 -- The pass made the version of the container odd and put this table into its root. Then it dropped the references that
 -- the words had no longer. (profile)

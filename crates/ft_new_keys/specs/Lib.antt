@@ -2,3 +2,4 @@ pub mod Placing
 pub mod Internal
 pub mod Fresh
 pub mod KeyGrowth
+pub mod Moving

@@ -1,6 +1,6 @@
 //! The words of a table that is fresh in a pass's hand, which no other pass reads, and those of the table that
-//! it is to take the place of, for `ft_keys::rebuild`. Values of the old one that stand in boxes are read there: the
-//! new one gets them in place.
+//! it is to take the place of, for `ft_keys::rebuild`. The new one gets the words of values as they stand, so that it
+//! names the same boxes; or values that stand in boxes are read there, and it gets them in place.
 ghost use Rattle.std.specs.Prelude.{◌≡◌, ℕ, suc, ◌+◌, ◌<◌, true, slice_index};
 ghost use Rattle.ft_trace.specs.Acts.{has_lock};
 ghost use Rattle.ft_trace.specs.Addresses.{container_count, class_of};
@@ -59,6 +59,8 @@ pub struct FreshWords<'a> {
     pub table: Table,
     /// The last slot of its index.
     pub mask: u64,
+    /// Whether the fresh table gets values in place that stand in boxes in the other one; else it names the boxes.
+    pub in_place: bool,
 }
 
 impl<'a> Words for FreshWords<'a> {
@@ -106,6 +108,9 @@ impl<'a> TableMove for FreshWords<'a> {
 
     fn old_entry(&mut self, place: u64, word: u64) -> u64 {
         let at = 8 * place + self.old_mask + 1;
+        if !self.in_place {
+            return self.bank.read_table(self.pass, self.old, at + word);
+        }
         if word == VALUE_KIND {
             return read_stored(self.bank, self.pass, self.o, self.old, at + VALUE_KIND).0;
         }

@@ -1,7 +1,8 @@
 //! Dicts and sets that get another table, under the lock. The new table is filled with what the container has
 //! before the container's version is made odd; then it is put into the root, and the new key is added there
 //! like any other. So who looks without the lock finds the same in either table until the counter is raised.
-//! Its values all stand in place, so the references of the old table's values are dropped once it is out of the root.
+//! Values that stand in boxes have their boxes in the new table as well: the references move with the root. Only those of
+//! deleted entries are dropped.
 ghost use Rattle.std.specs.Prelude.{◌≡◌, ◌≢◌, ℕ, suc, ◌+◌, ◌^◌, ◌<◌, ◌≤◌, List, [], ◌∷◌, All, filter, Option, nat_lt, false, Some, None, slice_set};
 ghost use Rattle.ft_model.specs.Classes.{IsClass};
 ghost use Rattle.ft_model.specs.Worlds.{length_of, serial_of};
@@ -12,7 +13,7 @@ ghost use Rattle.ft_keys.specs.Ways.{IsTableOf};
 ghost use Rattle.ft_trace.specs.Acts.{stage};
 ghost use Rattle.ft_trace.specs.Addresses.{container_count, class_of};
 ghost use Rattle.ft_trace.specs.Boxes.{references_held, IsSettled};
-ghost use Rattle.ft_trace.specs.Holds.{held_unboxed, known_state, in_hand};
+ghost use Rattle.ft_trace.specs.Holds.{held_unboxed, known_state, hand_unboxed};
 ghost use Rattle.ft_trace.specs.Kinds.{rows};
 ghost use Rattle.ft_trace.specs.Pictures.{root_in};
 ghost use Rattle.ft_trace.specs.ContainerStates.{kind_in};
@@ -27,12 +28,13 @@ ghost use Rattle.ft_table_calls.specs.Dropping.{AreValuePlaces};
 ghost use Rattle.ft_search.specs.Held.{IsHeldAt, KnowsTable};
 ghost use Rattle.ft_search.specs.Rounds.{kind_by};
 ghost use Rattle.ft_search.specs.OneEntryWrites.{WritesEntries};
-ghost use Rattle.ft_new_keys.specs.Fresh.{IsFilledWith};
-ghost use Rattle.ft_new_keys.specs.KeyGrowth.{AddsKey, BeginsIn, HoldsOld, IsFreeFor, MayGrowKeyed, key_takes, most_of, named_in_old};
+ghost use Rattle.ft_new_keys.specs.Moving.{HasMoved};
+ghost use Rattle.ft_new_keys.specs.KeyGrowth.{AddsKey, BeginsIn, HoldsOld, IsFreeFor, MayBeginKeyed, MayGrowKeyed, key_takes, most_of, named_in_old};
 ghost use Rattle.ft_new_keys.specs.Placing.{AreCounts, StoresAs};
 
 use crate::counts::Counts;
-use crate::filling::fill;
+use crate::filling::{Growth, move_entries};
+use crate::gone::drop_gone;
 use crate::placing::put_key;
 use ft_bank::{Bank, Pass, Table};
 use ft_keys::{
@@ -81,15 +83,13 @@ pub fn drop_old(bank: &Bank, pass: &mut Pass, o: u32, way: Way, old: Option<Tabl
     }
 }
 
-/// Makes the version of a dict or a set odd and puts a table into its root that has what it has, with each value in
-/// place. The references of the old table's values are dropped.
+/// Makes the version of a dict or a set odd and puts a table into its root that has what it has, each value in the box in
+/// which it stands, whose reference the new words have. The references of deleted entries are dropped.
 pub fn begin_in(bank: &Bank, pass: &mut Pass, o: u32, way: Way, old: Option<Table>, table: Table)
     requires pass { IsPassOf bank.now pass.old }
     requires way { kind_in (shape_of bank.now).starts o ≡ kind_by way }
-    requires may { MayGrowKeyed (shape_of bank.now) o old table (view pass.old) }
-    requires filled { IsFilledWith (shape_of bank.now).texts (class_of (table_id table))
-        (known_state o (view pass.old)).content
-        (in_hand (table_id table) (view pass.old)) }
+    requires may { MayBeginKeyed (shape_of bank.now) o old table (view pass.old) }
+    requires moved { HasMoved (shape_of bank.now) o table (view pass.old) }
     ensures pass { IsPassOf bank.now pass.new }
     ensures stack { stack_of pass.new ≡ stack_of pass.old }
     ensures begins { BeginsIn o table (view pass.old) (view pass.new) }
@@ -97,7 +97,7 @@ pub fn begin_in(bank: &Bank, pass: &mut Pass, o: u32, way: Way, old: Option<Tabl
     ensures references { SameReferences (view pass.old) (view pass.new) }
     ensures words { held_unboxed o (view pass.new) ≡ record {
       block = slice_set (held_unboxed o (view pass.old)).block 0 (suc (table_id table));
-      table = in_hand (table_id table) (view pass.old);
+      table = hand_unboxed o (table_id table) (view pass.old);
     } }
 {
     words_are_of_one_content();
@@ -105,7 +105,7 @@ pub fn begin_in(bank: &Bank, pass: &mut Pass, o: u32, way: Way, old: Option<Tabl
     used_entries_follow_a_set();
     bank.start_write(pass, o);
     bank.put_root(pass, o, Some(table));
-    drop_old(bank, pass, o, way, old);
+    drop_gone(bank, pass, o, way, old);
 }
 
 /// The first slot for a key that was never used, in the table of a container that hasn't the key.
@@ -179,7 +179,13 @@ pub(crate) fn add_in_new(
     used_entries_follow_a_set();
     words_follow_a_dict();
     words_follow_a_set();
-    fill(bank, pass, o, way, old, table, counts.fill);
+    let growth = Growth {
+        way,
+        old,
+        table,
+        fill: counts.fill,
+    };
+    move_entries(bank, pass, o, &growth);
     begin_in(bank, pass, o, way, old, table);
     let slot = free_slot(bank, pass, o, way, key, table);
     let hash = bank.hash_of(key);

@@ -5,13 +5,14 @@
 mod counts;
 mod filling;
 mod fresh;
+mod gone;
 mod growth;
 mod keys;
 mod placing;
 mod room;
 
 pub use crate::counts::{COUNT, Counts, FILL, NEXT, read_counts};
-pub use crate::filling::{blank, fill};
+pub use crate::filling::{Growth, blank, fill, move_entries};
 pub use crate::fresh::{FreshWords, read_stored};
 pub use crate::growth::{begin_in, drop_old};
 pub use crate::keys::{add_key, class_wanted, most_keys};

@@ -115,6 +115,7 @@ fn put_last(
         old_mask,
         table,
         mask,
+        in_place: true,
     };
     place_in(&mut words, mask, fill, pair);
 }

@@ -192,11 +192,11 @@ unraised n counted raise.Moved h = absurd (true≢false h)
 unraised n counted (raise.Memory class) h = absurd (true≢false h)
 unraised n counted other h = record { of_script = tt; wide = tt; readable = tt }
 
--- a MemoryError that has its cause is of a class
+-- a MemoryError that has its cause can be read
 lacking : (n : ℕ) (counted : Bool) (starts : List Start) (supply : Supply) (calls : List Call) (mine : List Entry) (called : Call) (said : Reply) → IsEarnedReply starts supply calls mine called said → is_memory said ≡ true → ReplyFits n counted said
 lacking n counted starts supply calls mine called (reply.Raised (raise.Memory class)) earned h = record { of_script = tt; wide = tt; readable = (earned.2.is_class.least, earned.2.is_class.greatest) }
 lacking n counted starts supply calls mine called (reply.Raised raise.Over) earned h = record { of_script = tt; wide = tt; readable = tt }
-lacking n counted starts supply calls mine called (reply.Raised raise.Heap) earned h = absurd (false≢true earned.landed)
+lacking n counted starts supply calls mine called (reply.Raised raise.Heap) earned h = record { of_script = tt; wide = tt; readable = tt }
 lacking n counted starts supply calls mine called said earned h = absurd (false≢true h)
 
 uncounted : (counted : Bool) (i : ℤ) → (counted ≡ true → IsNoInteger (reply.Value (value.Int i))) → counted ≡ false

@@ -2,7 +2,7 @@
 //! source has before the call.
 ghost use Rattle.ft_history.specs.declared.verdict.Verdict.{Verdict};
 ghost use Rattle.ft_history.specs.declared.verdict.Verdict.TheVariants as verdict;
-ghost use Rattle.ft_history.specs.EnoughTables.{HasEnoughTables, StaysWithinCaps};
+ghost use Rattle.ft_history.specs.EnoughTables.{HasEnoughPlaces, HasEnoughTables, StaysWithinCaps};
 ghost use Rattle.ft_io.specs.Streams.{added};
 ghost use Rattle.ft_model.specs.declared.entry.Entry.{Entry};
 ghost use Rattle.ft_model.specs.declared.script.ScriptParts.{ScriptParts};
@@ -100,18 +100,19 @@ pub fn what_is_written_is_found_legal()
         ⊎ (report.fault ≡ fault.Memory) }
 {}
 
-/// Where a script has enough tables, and no call would leave a container with more than the largest
-/// table holds, no MemoryError is written of it: of each class there are as many tables as the script
-/// has calls that can add, and one more for each thread but one. The same holds of a made script, of
-/// which a summary is written.
+/// Where a script has enough tables and places, and no call would leave a container with more than the
+/// largest table holds, no MemoryError is written of it: of each class there are as many tables as the
+/// script has calls that can add, and one more for each thread but one, and no thread makes more calls
+/// that would put a value in a box than its heap has places. The same holds of a made script, of which
+/// a summary is written.
 pub fn enough_tables_never_run_out()
     ensures written { (command : Subcommand) (text written : List ℕ) (script : ScriptParts)
         → runs_script command ≡ true → (ran : IsWritten command text written) → read_script text ≡ Ok script
-        → HasEnoughTables script → StaysWithinCaps script ran.report.history.items
+        → HasEnoughTables script → StaysWithinCaps script ran.report.history.items → HasEnoughPlaces script ran.report.history.items
         → All (λ entry. is_memory entry.reply ≡ false) ran.report.history.items }
     ensures made { (calls : ℕ) (text : List ℕ) (report : Report) (script : ScriptParts)
         → IsReportOn (subcommand.MakeTurns calls) text report → report.fault ≡ fault.Clean
         → read_script (made_text calls) ≡ Ok script
-        → HasEnoughTables script → StaysWithinCaps script report.history.items
+        → HasEnoughTables script → StaysWithinCaps script report.history.items → HasEnoughPlaces script report.history.items
         → All (λ entry. is_memory entry.reply ≡ false) report.history.items }
 {}

@@ -17,6 +17,7 @@ pub mod Unboxing
 pub mod Owning
 pub mod Overs
 pub mod ValueLoads
+pub mod Exchanging
 pub mod SearchedReads
 pub mod HitBoxes
 pub mod ReadyCommits

@@ -154,7 +154,7 @@ pub held_same : (k : Shape) (v w : View) → v.shape ≡ k → w.shape ≡ k →
 held_same k v w first then_ same b = ap (λ (z : Shape). references_held z b w.log) (sym then_) ∙ (same b ∙ ap (λ (z : Shape). references_held z b v.log) first)
 
 -- the pass holds one for a box that these words name
-named_own : (k : Shape) (v : View) (kind payload b : ℕ) → v.shape ≡ k → HasReferenceFor v kind payload → names_box b kind payload ≤ references_held k b v.log
+pub named_own : (k : Shape) (v : View) (kind payload b : ℕ) → v.shape ≡ k → HasReferenceFor v kind payload → names_box b kind payload ≤ references_held k b v.log
 named_own k v kind payload b shape own =
     dite (ℕ_discrete kind 4)
     (λ four. dite (ℕ_discrete payload b)

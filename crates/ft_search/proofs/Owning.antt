@@ -7,7 +7,7 @@ use Rattle.std.proofs.Math.Logic.{∥∥₁_elim}
 use Rattle.ft_layout.specs.declared.slot.Stored.{Stored}
 use Rattle.ft_layout.specs.Words.{FitsStored, IsStored, stored_kind, stored_payload}
 use Rattle.ft_trace.specs.declared.Act.{Act}
-use Rattle.ft_trace.specs.declared.Act.TheVariants.{StartWrite, PutTable}
+use Rattle.ft_trace.specs.declared.Act.TheVariants.{StartWrite, PutFresh, PutRoot, PutTable}
 use Rattle.ft_trace.specs.declared.Shape.{Shape}
 use Rattle.ft_trace.specs.declared.View.{View}
 use Rattle.ft_trace.specs.Acts.{view_after}
@@ -109,6 +109,34 @@ keeps_begun v w o f is kind payload own =
     let a = own four in
     let kept = kept_held v.shape payload (StartWrite o f ∷ v.log) a.0 in
     (a.0, sure_after v.shape payload 1 (StartWrite o f) v.log kept a.1, sure_after v.shape payload 2 (StartWrite o f) v.log kept a.2) in (
+      subst (λ (z : View). HasReferenceFor z kind payload) (sym is) mine,
+      ap (λ (z : View). kind_read z kind payload) is,
+      ap (λ (z : View). payload_read z kind payload) is,
+    )
+
+-- after a put into a fresh table
+pub keeps_fresh : (v w : View) (t i x : ℕ) → w ≡ view_after (PutFresh t i x) v → KeepsOwn v w
+keeps_fresh v w t i x is kind payload own =
+    let put : View = view_after (PutFresh t i x) v in
+    let mine : HasReferenceFor put kind payload = λ four.
+    let a = own four in
+    let kept = kept_held v.shape payload (PutFresh t i x ∷ v.log) a.0 in
+    (a.0, sure_after v.shape payload 1 (PutFresh t i x) v.log kept a.1, sure_after v.shape payload 2 (PutFresh t i x) v.log kept a.2) in (
+      subst (λ (z : View). HasReferenceFor z kind payload) (sym is) mine,
+      ap (λ (z : View). kind_read z kind payload) is,
+      ap (λ (z : View). payload_read z kind payload) is,
+    )
+
+-- after another root that moves no reference
+pub keeps_root : (v w : View) (o r old : ℕ) → w ≡ view_after (PutRoot o r old) v → SameReferences v w → KeepsOwn v w
+keeps_root v w o r old is same kind payload own =
+    let put : View = view_after (PutRoot o r old) v in
+    let now : SameReferences v put = subst (SameReferences v) is same in
+    let mine : HasReferenceFor put kind payload = λ four.
+    let a = own four in
+    let held : 0 < references_held v.shape payload (PutRoot o r old ∷ v.log) = subst (λ (n : ℕ). 0 < n) (sym (now payload)) a.0 in
+    let kept = kept_held v.shape payload (PutRoot o r old ∷ v.log) held in
+    (held, sure_after v.shape payload 1 (PutRoot o r old) v.log kept a.1, sure_after v.shape payload 2 (PutRoot o r old) v.log kept a.2) in (
       subst (λ (z : View). HasReferenceFor z kind payload) (sym is) mine,
       ap (λ (z : View). kind_read z kind payload) is,
       ap (λ (z : View). payload_read z kind payload) is,

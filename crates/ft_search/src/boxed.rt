@@ -9,10 +9,10 @@ ghost use Rattle.ft_trace.specs.Holds.{held_words, held_unboxed};
 ghost use Rattle.ft_bank.specs.BoxSteps.{kind_read, payload_read, HasReferenceFor, IsOpenValue};
 ghost use Rattle.ft_bank.specs.Passes.{shape_of, view, IsPassOf};
 ghost use Rattle.ft_bank.specs.PassSections.{stack_of};
-ghost use Rattle.ft_bank.specs.SameBoxes.{SameReferences, TakesNoPlace};
+ghost use Rattle.ft_bank.specs.SameBoxes.{HoldsFew, SameReferences, TakesNoPlace};
 ghost use Rattle.ft_bank.specs.Series.{DidAll};
 ghost use Rattle.ft_bank.specs.TableNames.{table_id, IsPlaceOf};
-ghost use Rattle.ft_bank.specs.Whole.{OnlyBoxed, OnlyLoaded, OnlyWritten};
+ghost use Rattle.ft_bank.specs.Whole.{OnlyBoxed, OnlyLoaded, OnlyPut, OnlyWritten};
 ghost use Rattle.ft_bank.specs.WriteSteps.{with_table};
 ghost use Rattle.ft_search.specs.Boxed.{IsKnownBox, NamedAreKnown, SeesKnown, SeesValue, WritesTable, box_acts};
 ghost use Rattle.ft_search.specs.KeyLooks.{AreLooks};
@@ -183,6 +183,49 @@ pub fn put_over(
         return;
     }
     release(bank, pass, named);
+}
+
+/// Exchanges the value of an entry or item whose version is odd, whose kind lies at this word of the table, for another
+/// one: a kind and a payload that are the value itself, or what names the box in which it stands, for which the pass
+/// holds a reference and whose value it knows. That reference is the words' then. Answers the kind and the payload that
+/// stood there; the reference of a box that they name is the pass's, which knows the value in it.
+#[inline(always)]
+pub fn exchange(
+    bank: &Bank,
+    pass: &mut Pass,
+    o: u32,
+    table: Table,
+    word: u64,
+    value: (u64, u64),
+) -> (u64, u64)
+    requires pass { IsPassOf bank.now pass.old }
+    requires writes { WritesTable (shape_of bank.now) o table (view pass.old) }
+    requires open { IsOpenValue (view pass.old) o (table_id table) word }
+    requires own { HasReferenceFor (view pass.old) value.0 value.1 }
+    ensures pass { IsPassOf bank.now pass.new }
+    ensures stack { stack_of pass.new ≡ stack_of pass.old }
+    ensures writes { HoldsFew (view pass.new) → WritesTable (shape_of bank.now) o table (view pass.new) }
+    ensures only { OnlyPut o (view pass.old) (view pass.new) }
+    ensures stood { (result.0 ≡ slice_index (held_words o (view pass.old)).table word)
+        × (result.1 ≡ slice_index (held_words o (view pass.old)).table (word + 1)) }
+    ensures raw { held_words o (view pass.new) ≡
+        with_table (with_table (held_words o (view pass.old)) word value.0) (word + 1) value.1 }
+    ensures words { held_unboxed o (view pass.new) ≡
+        with_table (with_table (held_unboxed o (view pass.old)) word (kind_read (view pass.old) value.0 value.1))
+        (word + 1) (payload_read (view pass.old) value.0 value.1) }
+    ensures references { (b : ℕ) →
+        references_held (shape_of bank.now) b (view pass.new).log + names_box b value.0 value.1 ≡
+        references_held (shape_of bank.now) b (view pass.old).log + names_box b result.0 result.1 }
+    ensures own { HasReferenceFor (view pass.new) result.0 result.1 }
+    ensures reads { (kind_read (view pass.new) result.0 result.1 ≡ slice_index (held_unboxed o (view pass.old)).table word)
+        × (payload_read (view pass.new) result.0 result.1 ≡
+        slice_index (held_unboxed o (view pass.old)).table (word + 1)) }
+{
+    let start = bank.cell_of(table);
+    let kind = bank.read_word(pass, table, start, word);
+    let payload = bank.read_word(pass, table, start, word + 1);
+    bank.put_value(pass, o, table, start, word, value.0, value.1);
+    (kind, payload)
 }
 
 /// Puts the value of an entry or item whose version is odd in its place, where it stands in a box, and drops the

@@ -35,7 +35,7 @@ pub struct ValuePlaces {
 /// Drops the reference of the value whose kind lies at this word of the table, where it names a box. `start` is where
 /// the table's words lie.
 #[inline(always)]
-fn drop_value(bank: &Bank, pass: &mut Pass, table: Table, start: u64, word: u64)
+pub fn drop_value(bank: &Bank, pass: &mut Pass, table: Table, start: u64, word: u64)
     requires pass { IsPassOf bank.now pass.old }
     requires table { IsTableIn (shape_of bank.now) table }
     requires start { IsPlaceOf (shape_of bank.now) table start }

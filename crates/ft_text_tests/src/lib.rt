@@ -9,6 +9,8 @@ mod chronicles;
 #[cfg(test)]
 mod generated;
 #[cfg(test)]
+mod heap_judging;
+#[cfg(test)]
 mod judging;
 #[cfg(test)]
 mod merging;

@@ -29,7 +29,7 @@ const CASES: [Case<'static>; 24] = [
         storage: Storage::Tables,
         verdict: Verdict::Not(2, Rule::Memory),
     },
-    // No call of the heap.
+    // A call that puts no value in a box.
     Case {
         script: "tables 3 1\ndict d\ndict e\nthread A\nset d 1 0\nset e 1 0\nlen e\n",
         transcript: "A.1 r0 set d 1 0 = MemoryError heap\n",

@@ -38,7 +38,7 @@ pub fn seen_boxes_were_stored()
     ensures { SeenBoxesWereStored }
 {}
 
-/// A box that no write has stored has no reference once its maker holds none.
+/// A box that no write has stored has no reference where its maker holds none and writes no container.
 pub fn taken_places_are_the_makers()
     ensures { TakenPlacesAreTheMakers }
 {}

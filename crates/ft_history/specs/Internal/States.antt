@@ -1,5 +1,5 @@
 -- What the judge keeps of the entries before a place.
-use Rattle.std.specs.Prelude.{◌≡◌, ℕ, Bool, false, ◌+◌, ◌<◌, ◌≤◌, nat_le, ◌==◌, List, [], ◌∷◌, map, reverse, take, drop, length, All, Option, Some, None, if◌then◌else◌, IfSome, IsSome, slice_get, slice_index_or}
+use Rattle.std.specs.Prelude.{◌≡◌, ℕ, Bool, false, ◌+◌, ◌<◌, ◌≤◌, nat_le, ◌==◌, List, [], ◌∷◌, ◌++◌, map, reverse, take, drop, length, All, Option, Some, None, if◌then◌else◌, IfSome, IsSome, slice_get, slice_index_or}
 use Rattle.std.specs.Option.{option_map_or}
 use Rattle.ft_model.specs.declared.call.Call.{Call}
 use Rattle.ft_model.specs.declared.call.Call.TheVariants as call
@@ -15,7 +15,8 @@ use Rattle.ft_model.specs.declared.script.ScriptParts.{ScriptParts}
 use Rattle.ft_model.specs.Scripts.{IsDeclaredAs, cursor_of}
 use Rattle.ft_model.specs.declared.content.Content.{Content}
 use Rattle.ft_model.specs.declared.content.Content.TheVariants as content
-use Rattle.ft_model.specs.Worlds.{start_world, start_hands, IsDeclared, cursor_at, cursor_kind, container_of}
+use Rattle.ft_model.specs.Boxings.{boxings}
+use Rattle.ft_model.specs.Worlds.{starts_of, start_world, start_hands, IsDeclared, cursor_at, cursor_kind, container_of}
 use Rattle.ft_model.specs.Answers.{after_write}
 use Rattle.ft_model.specs.Histories.{Section, entries_of, calls_of, cursors_of, hands_at, writes, sections_at, is_marked, disturbs, has_call_on, open_sections_after}
 use Rattle.ft_history.specs.declared.progress.OpenSection.{OpenSection}
@@ -96,11 +97,20 @@ inner_begun (section ∷ sections) = section.containers
 
 -- ---- threads
 
+-- so many of a thread's writes before a place put a value in a box, whatever writes follow
+abbrev pub HasBoxed : ScriptParts → List Entry → ℕ → ℕ → ℕ → Type 0
+HasBoxed script entries thread place boxed =
+    (later : List Call)
+    → boxed
+    ≡ boxings (starts_of script.containers) (writes (take place entries) ++ later)
+    (entries_of thread (take place entries))
+
 -- what is kept of a thread before a place
 pub record IsProgress (script : ScriptParts) (entries : List Entry) (thread place : ℕ)
     (progress : ThreadProgress) : Type 0 where
   pub made : progress.made ≡ length (entries_of thread (take place entries))
   pub marks : progress.marks ≡ count_by (is_marked thread) (take place entries)
+  pub boxed : HasBoxed script entries thread place progress.boxed
   pub hands : progress.hands ≡ hands_at script entries thread place
   pub sections : sections_at entries thread place ≡ map section_of (all_begun progress.sections.items)
   pub «open» : AllByRecursion (IsOpen script entries thread place) (all_begun progress.sections.items)
@@ -109,6 +119,7 @@ pub record IsProgress (script : ScriptParts) (entries : List Entry) (thread plac
 pub record IsFreshProgress (thread : Thread) (progress : ThreadProgress) : Type 0 where
   pub made : progress.made ≡ 0
   pub marks : progress.marks ≡ 0
+  pub boxed : progress.boxed ≡ 0
   pub hands : progress.hands ≡ start_hands (length thread.cursors)
   pub sections : progress.sections.items ≡ []
 

@@ -8,6 +8,7 @@ use Rattle.ft_model.specs.declared.script.Thread.{Thread}
 use Rattle.ft_model.specs.declared.script.ScriptParts.{ScriptParts}
 use Rattle.ft_model.specs.Worlds.{kind_of}
 use Rattle.ft_model.specs.Answers.{answer, is_memory}
+use Rattle.ft_model.specs.Boxings.{boxes}
 use Rattle.ft_model.specs.Histories.{writes, names, IsReplied}
 use Rattle.ft_model.specs.Judging.{Holds, HoldsAt, rank_of}
 use Rattle.ft_history.specs.declared.progress.ThreadProgress.{ThreadProgress}
@@ -43,6 +44,7 @@ pub record GoesAfter (place : ℕ) (entry : Entry) (said : Bool) (before after :
       ≡ (if is_memory entry.reply then before.hands else (answer old.world before.hands entry.call).hands)
   pub made : after.made ≡ before.made + 1
   pub marks : after.marks ≡ before.marks + (if is_some entry.waited then 1 else 0)
+  pub boxed : after.boxed ≡ before.boxed + (if entry.wrote && boxes old.world entry.call then 1 else 0)
   pub sections : all_begun after.sections.items
       ≡ after_begun place after.marks entry.call (all_begun before.sections.items)
   pub writes : new.writes ≡ old.writes + (if entry.wrote then 1 else 0)

@@ -11,3 +11,11 @@ pub record IsMoving (class : ℕ) (values news : List Value) (first past at : �
   pub putting : IsPutting class values first past now words
   pub done : (p : ℕ) → p < at → now p ≡ stored_item news p
   pub rest : (p : ℕ) → at ≤ p → now p ≡ stored_item values p
+
+-- The items are put in order, from the last one down, and those from this place on were: it stores what `news` has from it
+-- on, and what the list had before it. (profile)
+pub record IsMovingDown (class : ℕ) (values news : List Value) (first past at : ℕ) (words : List ℕ) : Type 0 where
+  pub now : ℕ → Stored
+  pub putting : IsPutting class values first past now words
+  pub done : (p : ℕ) → at ≤ p → now p ≡ stored_item news p
+  pub rest : (p : ℕ) → p < at → now p ≡ stored_item values p

@@ -28,6 +28,11 @@ go_through-requires-clause-marks c =
     let threads = c.args.state.now.threads in
     (c.requires.few c.index_mut-progress.result.now (its_thread threads.items c.args.entry.now.thread _ c.index_mut-progress.result.now c.requires.thread threads.ok.0 c.index_mut-progress.ensures.value)).1
 
+pub go_through-requires-clause-boxed : goal.go_through-requires-clause-boxed
+go_through-requires-clause-boxed c =
+    let threads = c.args.state.now.threads in
+    (c.requires.few c.index_mut-progress.result.now (its_thread threads.items c.args.entry.now.thread _ c.index_mut-progress.result.now c.requires.thread threads.ok.0 c.index_mut-progress.ensures.value)).2
+
 pub returns-then-entry : goal.returns-then-entry
 returns-then-entry c =
     let threads = c.args.state.now.threads in
@@ -45,6 +50,7 @@ returns-then-entry c =
         hands = c.in_ok-right.ensures.hands;
         made = c.in_ok-right.ensures.made;
         marks = c.in_ok-right.ensures.marks;
+        boxed = c.in_ok-right.ensures.boxed;
         sections = c.in_ok-right.ensures.sections;
         writes = ap (λ b. c.args.state.now.writes + cond b 1 0) (sym c.if-entry.true);
         containers = sym c.note_write.new.containers.ok.0 ∙ c.note_write.ensures.length ∙ c.args.state.now.containers.ok.0;
@@ -75,6 +81,7 @@ returns-else-entry c =
         hands = c.in_ok-right.ensures.hands;
         made = c.in_ok-right.ensures.made;
         marks = c.in_ok-right.ensures.marks;
+        boxed = c.in_ok-right.ensures.boxed;
         sections = c.in_ok-right.ensures.sections;
         writes = let none : c.args.state.now.writes ≡ c.args.state.now.writes + 0 = omega arith in none ∙ ap (λ b. c.args.state.now.writes + cond b 1 0) (sym c.if-entry.false);
         containers = refl;

@@ -6,7 +6,7 @@ use Rattle.ft_model.specs.declared.entry.Entry.{Entry}
 use Rattle.ft_model.specs.declared.entry.Rule.TheVariants as rule
 use Rattle.ft_history.specs.Internal.Steps.{BreaksFirst, FindsBroken}
 use Rattle.ft_model.specs.Histories.{writes, entries_of}
-use Rattle.ft_history.proofs.Judged.{few_made}
+use Rattle.ft_history.proofs.Judged.{few_made, few_boxed}
 use Rattle.ft_history.proofs.FewEntries.{room_before}
 use Rattle.ft_history.proofs.AccountLemmas.{earned_no_cursor, few_takings}
 use Rattle.ft_history.proofs.ScriptLemmas.{await_of, earlier_named, unsplit_start}
@@ -72,6 +72,7 @@ go_after-requires-clause-few c = λ progress made.
     let within : c.args.place ≤ length c.args.entries.now = omega (arith, c.requires.place) in (
       omega (arith, so_far.made, few_made c.args.entries.now c.args.place c.index-entries-place.result.thread within, c.requires.few, c.requires.place),
       omega (arith, so_far.marks, few_marks c.args.entries.now c.args.place c.index-entries-place.result.thread within, c.requires.few, c.requires.place),
+      omega (arith, few_boxed c.args.parts.now c.args.entries.now c.args.place c.index-entries-place.result.thread progress.boxed within so_far.boxed, c.requires.few, c.requires.place),
     )
 
 pub go_after-requires-clause-writes : goal.go_after-requires-clause-writes

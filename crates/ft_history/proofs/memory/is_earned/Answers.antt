@@ -1,4 +1,4 @@
-use Rattle.std.proofs.Common.{◌≡◌, ◌⊎◌, ◌∙◌, List, [], not, true, false, ℕ, sym, ap, subst, inl, inr}
+use Rattle.std.proofs.Common.{◌≡◌, ◌⊎◌, ◌↔◌, IsTrue, ◌∙◌, List, [], not, true, false, ℕ, sym, ap, subst, inl, inr}
 use Rattle.std.specs.Prelude.{All}
 use Rattle.std.proofs.lemmas.Bool.{false≢true, true≢false}
 use Rattle.ft_model.specs.declared.call.Call.{Call}
@@ -30,7 +30,7 @@ no_cause parts calls mine called said class unsplit is (inr passes) earned =
     true≢false (sym passes ∙ cause.1)
 
 pub returns-else-not-passes : goal.returns-else-not-passes
-returns-else-not-passes c = λ calls mine same kept.
+returns-else-not-passes c = λ calls mine same kept used.
     let called : Call = c.args.entry.now.call in
     let is : c.args.entry.now.reply ≡ reply.Raised (raise.Memory c.in-Raised-Memory.class) = c.in-Raised-Memory.is ∙ ap reply.Raised (rw c.in-Raised-Memory.is at c.in-Raised-Memory.field-0-is) in
     let why : (can_add called ≡ false) ⊎ (would_pass (stored_after c.args.parts.now calls).world called ≡ true) = elim c.if-not-passes.either [
@@ -41,10 +41,18 @@ returns-else-not-passes c = λ calls mine same kept.
     elim c.if-can_add.branch [
       | then-can_add w ↦ (
         λ yes. absurd (elim c.if-not-passes.either [
-          | inl both ↦ false≢true (sym (w.t-10-is ∙ ap not both.1) ∙ yes)
+          | inl both ↦ false≢true (sym (w.t-11-is ∙ ap not both.1) ∙ yes)
           | inr none ↦ true≢false (sym w.if-can_add.true ∙ none)
         ]),
         λ earned. absurd (refused earned),
       )
-      | else-can_add w ↦ (λ yes. absurd (false≢true (sym w.if-can_add.false ∙ sym w.t-10-is ∙ yes)), λ earned. absurd (refused earned))
+      | else-can_add w ↦ (λ yes. absurd (false≢true (sym w.if-can_add.false ∙ sym w.t-11-is ∙ yes)), λ earned. absurd (refused earned))
     ]
+
+pub returns-then-not-passes-2 : goal.returns-then-not-passes-2
+returns-then-not-passes-2 c = λ calls mine same kept used.
+    let parts = c.args.parts.now in
+    let called : Call = c.args.entry.now.call in
+    let is : c.args.entry.now.reply ≡ reply.Raised raise.Heap = c.in-Raised-Heap.is ∙ ap reply.Raised (rw c.in-Raised-Heap.is at c.in-Raised-Heap.field-0-is) in
+    let stays : would_pass c.args.world.now called ≡ false = sym c.would_pass-passes.ensures ∙ c.if-not-passes-2.true in
+    subst (λ (said : Reply). IsTrue c.is_heap_earned.result ↔ IsEarnedReply (starts_of parts.containers) (supply_of parts) calls mine called said) (sym is) (c.is_heap_earned.ensures calls mine same used stays)

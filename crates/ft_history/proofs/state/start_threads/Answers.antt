@@ -13,8 +13,8 @@ loop-thread-preserved c =
     let all = c.loop-thread.all in
     let long : length all.items ≡ c.loop-thread.thread-index = omega (arith, all.ok.0, c.loop-thread.invariant.length) in
     let here : slice_get c.args.threads.now c.loop-thread.thread-index ≡ Some c.thread-item.result = slice_get_read c.args.threads.now (length c.args.threads.now) _ c.thread-item.result refl c.loop-thread-test.true c.thread-item.is in
-    let born : ThreadProgress = record { made = 0; marks = 0; hands = c.in_ok-start.field-0; sections = c.new.result } in
-    let fresh : IsFreshProgress c.thread-item.result born = record { made = refl; marks = refl; hands = c.in_ok-start.ensures ∙ ap start_hands c.len.ensures; sections = c.new.ensures.items } in
+    let born : ThreadProgress = record { made = 0; marks = 0; boxed = 0; hands = c.in_ok-start.field-0; sections = c.new.result } in
+    let fresh : IsFreshProgress c.thread-item.result born = record { made = refl; marks = refl; boxed = refl; hands = c.in_ok-start.ensures ∙ ap start_hands c.len.ensures; sections = c.new.ensures.items } in
     record {
       length = omega (arith, c.in_ok-push.ensures.len, c.loop-thread.invariant.length);
       fresh = λ thread found progress at made.

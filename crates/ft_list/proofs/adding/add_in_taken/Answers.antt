@@ -10,12 +10,13 @@ use Rattle.ft_trace.specs.ContainerStates.{changes}
 use Rattle.ft_bank.specs.Passes.{shape_of, view}
 use Rattle.ft_bank.specs.TableNames.{table_id, root_for}
 use Rattle.ft_bank.proofs.TableAddresses.{class_is}
+use Rattle.ft_search.proofs.Overs.{held_same}
 use Rattle.ft_table_calls.specs.Adding.{Retires}
 use Rattle.ft_table_calls.proofs.Rooting.{taken_out}
 use Rattle.ft_list.specs.ListWrites.{Grows}
 use Rattle.ft_list.specs.ListItemWrites.{known_items}
 use Rattle.ft_list.specs.Internal.Additions.{count_in, with_added}
-use Rattle.ft_list.proofs.Additions.{taken_grows, no_table_lacks, taken_room, taken_other, taken_root, tried_addition, tried_has, tried_grows, tried_items, tried_knows, tried_may, tried_news}
+use Rattle.ft_list.proofs.Additions.{taken_grows, no_table_lacks, taken_room, taken_other, taken_wider, taken_root, tried_addition, tried_has, tried_grows, tried_items, tried_knows, tried_may, tried_news}
 use Rattle.ft_list.proofs.Extending.{added_long}
 use Rattle.ft_list.proofs.GrowWrites.{list_changes}
 use Rattle.ft_list.proofs.adding.add_in_taken.Goals as goal
@@ -35,6 +36,22 @@ add_in-number-requires-clause-other c is =
     let x = e.did.6 in
     let list = tried_knows _ (view a.pass.now) (view c.take.new.pass) e.same e.keeps k a.l a.old c.requires.pass.1 c.requires.may.list in
     taken_root k a.old c.in-Taken.table a.class (a.count + count_in a.addition) c.requires.few c.requires.takes x.0 x.1 c.requires.may.list.table_in (sym list.root ∙ is)
+
+pub add_in-number-requires-clause-wider : goal.add_in-number-requires-clause-wider
+add_in-number-requires-clause-wider c =
+    let a = c.args in
+    let x = c.in-Taken.ensures.did.6 in
+    taken_wider (shape_of a.bank.now) a.old c.in-Taken.table a.class (a.count + count_in a.addition) c.requires.few c.requires.takes x.0 x.1 c.requires.may.list.table_in
+
+pub add_in-number-requires-clause-spare : goal.add_in-number-requires-clause-spare
+add_in-number-requires-clause-spare c b =
+    let k = shape_of c.args.bank.now in
+    let same = held_same k (view c.args.pass.now) (view c.take.new.pass) c.requires.pass.1 (c.in-Taken.ensures.same.shape ∙ c.requires.pass.1) c.in-Taken.ensures.keeps.boxes.references b in
+    let none = c.requires.may.boxes.none b in
+    omega (arith, same, none)
+
+pub add_in-number-requires-clause-untaken : goal.add_in-number-requires-clause-untaken
+add_in-number-requires-clause-untaken c b taken = c.requires.may.boxes.stored b (sym (c.in-Taken.ensures.keeps.boxes.made.uses b) ∙ taken)
 
 pub add_in-number-requires-clause-count : goal.add_in-number-requires-clause-count
 add_in-number-requires-clause-count c =

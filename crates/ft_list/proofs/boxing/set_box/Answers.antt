@@ -1,33 +1,27 @@
-use Rattle.std.proofs.Common.{◌≡◌, ◌≢◌, ℕ, ◌+◌, ◌<◌, ◌^◌, false, true≢false, List, length, refl, sym, ap, ◌∙◌, subst, arith}
+use Rattle.std.proofs.Common.{refl, ◌≡◌, ◌<◌, true≢false, List, length, sym, ap, ◌∙◌, subst, arith}
 use Rattle.std.specs.Prelude.{slice_set}
 use Rattle.ft_model.specs.declared.call.Call.{Call}
 use Rattle.ft_model.specs.declared.call.ListCall.TheVariants as list
 use Rattle.ft_model.specs.declared.data.Value.{Value}
 use Rattle.ft_model.specs.declared.reply.Reply.TheVariants as reply
 use Rattle.ft_layout.specs.declared.slot.Ref.{Ref}
-use Rattle.ft_layout.specs.declared.slot.Stored.{Stored}
-use Rattle.ft_layout.specs.declared.slot.Stored.TheVariants.{Boxed, Plain}
-use Rattle.ft_layout.specs.Words.{IsStored, stored_kind, stored_payload}
-use Rattle.ft_model.specs.Boxings.{boxes, is_boxed}
+use Rattle.ft_layout.specs.declared.slot.Stored.TheVariants.{Plain}
+use Rattle.ft_layout.specs.Words.{stored_kind, stored_payload}
+use Rattle.ft_model.specs.Boxings.{boxes}
 use Rattle.ft_trace.specs.declared.Shape.{Shape}
 use Rattle.ft_trace.specs.declared.View.{View}
-use Rattle.ft_trace.specs.Acts.{is_writing}
-use Rattle.ft_trace.specs.Addresses.{class_of, slots}
-use Rattle.ft_trace.specs.Boxes.{names_box, references_held, IsDoneWithBoxes}
-use Rattle.ft_trace.specs.Pictures.{item_field, root_in}
+use Rattle.ft_trace.specs.Boxes.{IsDoneWithBoxes}
+use Rattle.ft_trace.specs.Pictures.{root_in}
 use Rattle.ft_trace.proofs.ValuePlaces.{plain_kind}
-use Rattle.ft_bank.specs.BoxSteps.{box_id, HasReferenceFor}
+use Rattle.ft_bank.specs.BoxSteps.{box_id}
 use Rattle.ft_bank.specs.Passes.{shape_of, view}
-use Rattle.ft_bank.specs.TableNames.{table_id, IsTableIn}
-use Rattle.ft_bank.specs.Whole.{OnlyBoxed, OnlyLoaded}
+use Rattle.ft_bank.specs.Whole.{OnlyBoxed}
 use Rattle.ft_bank.proofs.KnownAfterWrites.{boxed_then, loaded_boxed, loaded_held}
 use Rattle.ft_boxes.specs.References.{box_of}
-use Rattle.ft_search.specs.OneEntryWrites.{HasTable}
 use Rattle.ft_search.proofs.Overs.{plain_refs}
 use Rattle.ft_search.proofs.Owning.{plain_seen}
 use Rattle.ft_list.specs.HeldValues.{HoldsValue}
-use Rattle.ft_list.specs.Internal.StoredBoxes.{StoresBox}
-use Rattle.ft_list.specs.ListItemWrites.{ReadsAs, known_items, stored_item}
+use Rattle.ft_list.specs.ListItemWrites.{known_items, stored_item}
 use Rattle.ft_list.specs.ListWrites.{Changes, MayBeginList, MayWriteList}
 use Rattle.ft_list.proofs.HeldWrites.{begins_on, box_own, box_reads, box_stores, boxed_reads, changes_on, done_dropped, done_stored, done_wrote, holds_box, holds_loaded, item_stands, items_on, loaded_reads, may_on}
 use Rattle.ft_list.proofs.Lists.{begins}
@@ -233,3 +227,14 @@ returns-clause-wrote c =
       root = e.root;
       boxes = done_stored k c.keep.result c.args.value u w c.read_stored-old.ensures.pass.1 (holds_kept (goal.at.returns-clause-wrote c).After-keep) may.settled e.wrote.made e.references e.stored;
     }
+
+-- ---- the box that the item names then
+
+pub returns-then-is_value-clause-names : goal.returns-then-is_value-clause-names
+returns-then-is_value-clause-names c other =
+    absurd (other (sym (old_is (goal.at.returns-then-is_value-clause-names c).After-read_stored-old) ∙ c.is_value.ensures.0 c.if-is_value.true))
+
+pub returns-clause-names : goal.returns-clause-names
+returns-clause-names c other =
+    let raw = c.set_item-2.ensures.boxed refl in
+    (raw.0, raw.1 ∙ ap box_id c.keep.ensures)

@@ -1,6 +1,5 @@
-use Rattle.std.proofs.Common.{◌≡◌, ◌≢◌, ◌<◌, ℕ, ℤ, true, false, true≢false, List, [], ◌∷◌, length, Option, Some, None, refl, sym, ap, ◌∙◌, subst, arith}
-use Rattle.std.specs.Prelude.{◌&&◌, is_some, not, slice_set, if◌then◌else◌}
-use Rattle.std.specs.Option.{unwrap_or}
+use Rattle.std.proofs.Common.{◌≡◌, ◌<◌, ℕ, ℤ, true, true≢false, length, Option, Some, None, refl, sym, ap, ◌∙◌, subst, arith}
+use Rattle.std.specs.Prelude.{is_some, slice_set}
 use mir.Syntax.{w64}
 use mir.Val.{to_z, of_z}
 use Rattle.std.proofs.Math.Facts.{to_z-of_z}
@@ -8,7 +7,6 @@ use Rattle.ft_model.specs.declared.call.Call.{Call}
 use Rattle.ft_model.specs.declared.call.Call.TheVariants as call
 use Rattle.ft_model.specs.declared.call.ListCall.TheVariants as list
 use Rattle.ft_model.specs.declared.content.Content.TheVariants as content
-use Rattle.ft_model.specs.declared.data.Value.{Value}
 use Rattle.ft_model.specs.declared.reply.Reply.TheVariants as reply
 use Rattle.ft_model.specs.declared.reply.Raise.TheVariants as raise
 use Rattle.ft_model.specs.Lists.{index_in}
@@ -18,19 +16,20 @@ use Rattle.ft_trace.specs.declared.View.{View}
 use Rattle.ft_trace.specs.Addresses.{container_count}
 use Rattle.ft_trace.specs.Boxes.{IsDoneWithBoxes}
 use Rattle.ft_trace.specs.ContainerStates.{changes, kind_in}
-use Rattle.ft_trace.specs.Holds.{held_unboxed, known_state}
+use Rattle.ft_trace.specs.Holds.{known_state}
 use Rattle.ft_bank.specs.Passes.{shape_of, view}
 use Rattle.ft_bank.specs.Whole.{OnlyBoxed, OnlyLoaded}
 use Rattle.ft_bank.proofs.KnownAfterWrites.{boxed_then, loaded_boxed, loaded_by, loaded_then}
 use Rattle.ft_boxes.specs.References.{box_of}
-use Rattle.ft_list.specs.HeldValues.{HoldsValue, MadeHeld}
-use Rattle.ft_list.specs.ListItemWrites.{known_items}
+use Rattle.ft_list.specs.HeldValues.{HoldsValue, MadeHeld, NamesBoxAt}
+use Rattle.std.specs.Option.{unwrap_or}
+use Rattle.ft_list.specs.ListItemWrites.{known_items, stored_item}
 use Rattle.ft_list.specs.ListWrites.{Changes, MayBeginList, MayWriteList, Raises}
 use Rattle.ft_list.proofs.HeldWrites.{begins_on, boxed_reads, done_answered, done_dropped, held_answered, held_wrote, holds_box, holds_loaded, items_on, loaded_reads, may_on, replied_on}
 use Rattle.ft_list.proofs.ListCallFacts.{set_changes}
 use Rattle.ft_list.proofs.ListMidst.{reply_changes, reply_raises}
 use Rattle.ft_list.proofs.Lists.{list_content, list_counts}
-use Rattle.ft_list.proofs.Raising.{and_false, raised, set_raises}
+use Rattle.ft_list.proofs.Raising.{set_raises}
 use Rattle.ft_list.proofs.boxing.set_held.Goals as goal
 use Rattle.ft_list.proofs.boxing.set_held.Goals.{After-read_block-count, After-table_in-table, After-release}
 
@@ -230,3 +229,24 @@ returns-in-None-clause-made c =
     (held_answered k called said c.raise-stamp.result v r x (drops d) c.raise-stamp.ensures.answered refl c.raise-stamp.ensures.wrote
     (replied_on called said v r (drops d).work (reply_raises a.l (list.Set z a.value) said (known_items a.l r) r low may.locked is_list (raises_r d)))
     (done_answered k called said c.raise-stamp.result.number r x c.release.ensures.pass.1 c.raise-stamp.ensures.pass.1 (done_r d) c.raise-stamp.ensures.answered))
+
+-- ---- the box that the item names then
+
+pub returns-in-Some-clause-names : goal.returns-in-Some-clause-names
+returns-in-Some-clause-names c place means other =
+    let a = c.args in
+    let d = (goal.at.returns-in-Some-clause-names c).After-table_in-table in
+    let n = count_is (goal.at.returns-in-Some-clause-names c).After-read_block-count in
+    let found : Some c.in-Some.place ≡ Some place =
+    sym c.in-Some.is ∙ (c.place_in.ensures.answer ∙ ((λ i. index_in (n i) (to_z-of_z {w = w64} {z = a.index} c.ranges.index i)) ∙ means)) in
+    let same : c.in-Some.place ≡ place = ap (λ (z : Option ℕ). unwrap_or z 0) found in
+    let items = items_on a.l (view a.pass.now) (view c.table_in-table.new.pass) (both d).work in
+    subst (λ (q : ℕ). NamesBoxAt a.l q (box_of a.held) (view c.set_box-number.new.pass)) same
+    (c.set_box-number.ensures.names (λ e. other (sym (λ i. stored_item (items i) (same i)) ∙ e)))
+
+pub returns-in-None-clause-names : goal.returns-in-None-clause-names
+returns-in-None-clause-names c place means other =
+    let n = count_is (goal.at.returns-in-None-clause-names c).After-read_block-count in
+    let found : None ≡ Some place =
+    sym c.in-None.is ∙ (c.place_in.ensures.answer ∙ ((λ i. index_in (n i) (to_z-of_z {w = w64} {z = c.args.index} c.ranges.index i)) ∙ means)) in
+    absurd (true≢false (sym (ap is_some found)))

@@ -8,17 +8,18 @@ use Rattle.ft_trace.specs.declared.Shape.{Shape}
 use Rattle.ft_trace.specs.declared.View.{View}
 use Rattle.ft_trace.specs.Addresses.{class_of, container_count, slots}
 use Rattle.ft_trace.specs.Holds.{held_unboxed, in_hand, known_state, held_words}
-use Rattle.ft_trace.specs.Pictures.{root_in}
+use Rattle.ft_trace.specs.Pictures.{ContainerWords, root_in}
 use Rattle.ft_trace.specs.ContainerStates.{ContainerState}
 use Rattle.ft_bank.specs.Passes.{shape_of, view}
 use Rattle.ft_bank.specs.TableNames.{table_id}
 use Rattle.ft_bank.specs.Whole.{OnlyWritten}
 use Rattle.ft_bank.proofs.KnownAfterWrites.{put_by, written_then, work_knows, put_written}
+use Rattle.ft_search.proofs.Overs.{held_same}
 use Rattle.ft_list.specs.ListWrites.{Grows}
 use Rattle.ft_list.specs.ListItemWrites.{IsPutting, known_items, stored_item}
 use Rattle.ft_list.specs.Internal.Moving.{IsMoving}
 use Rattle.ft_list.specs.Internal.Additions.{count_in, first_in, with_added}
-use Rattle.ft_list.specs.Internal.NewListTables.{IsFilled}
+use Rattle.ft_list.specs.Internal.NewListTables.{IsCopied}
 use Rattle.ft_list.proofs.Cares.{few_slots, table_class, writes_on}
 use Rattle.ft_list.proofs.Extending.{added_changing, added_head, added_long, added_on, addition_begun, addition_on}
 use Rattle.ft_list.proofs.FinishedWrites.{root_stays}
@@ -33,13 +34,14 @@ begin_in-requires-clause-may c =
     let a = c.args in
     grow_filled (shape_of a.bank.now) a.o a.old a.table (view a.pass.now) (view c.fill.new.pass) c.requires.pass.1 c.fill.ensures.only c.requires.may
 
-pub begin_in-requires-clause-filled : goal.begin_in-requires-clause-filled
-begin_in-requires-clause-filled c =
+pub begin_in-requires-clause-copied : goal.begin_in-requires-clause-copied
+begin_in-requires-clause-copied c =
     let a = c.args in
     let class = class_of (table_id a.table) in
     let w = view c.fill.new.pass in
-    let items : known_items a.o w ≡ known_items a.o (view a.pass.now) = ap (λ (u : ContainerState). list_of u.content) (work_knows (view a.pass.now) w a.o c.fill.ensures.only.work) in
-    subst (λ (l : List Value). IsFilled class l (slots class) (in_hand (table_id a.table) w)) (sym items) c.fill.ensures.filled
+    let l = c.requires.may.list in
+    let same : held_words a.o w ≡ held_words a.o (view a.pass.now) = (c.fill.ensures.only.keeps a.o (subst (λ (z : Shape). a.o < container_count z) (sym c.requires.pass.1) l.container) l.locked l.even).0 in
+    subst (λ (x : ContainerWords). IsCopied a.old x.table class (slots class) (in_hand (table_id a.table) w)) (sym same) c.fill.ensures.copied
 
 pub begin_in-requires-clause-room : goal.begin_in-requires-clause-room
 begin_in-requires-clause-room c =
@@ -84,6 +86,14 @@ put_added-requires-clause-before c =
     let first = first_in a.addition a.count in
     let past = a.count + count_in a.addition in
     subst (λ (l : List Value). IsPutting (class_of (table_id a.table)) l first past (stored_item l) (held_unboxed a.o (view c.begin_in.new.pass)).table) (sym items) (c.begin_in.ensures.putting first past)
+
+pub put_added-requires-clause-spare : goal.put_added-requires-clause-spare
+put_added-requires-clause-spare c b =
+    let k = shape_of c.args.bank.now in
+    let first = held_same k (view c.args.pass.now) (view c.fill.new.pass) c.requires.pass.1 c.fill.ensures.pass.1 c.fill.ensures.only.references b in
+    let second = held_same k (view c.fill.new.pass) (view c.begin_in.new.pass) c.fill.ensures.pass.1 c.begin_in.ensures.pass.1 c.begin_in.ensures.references b in
+    let s = c.requires.spare b in
+    omega (arith, first, second, s)
 
 pub overflow_add-past : goal.overflow_add-past
 overflow_add-past c =
@@ -137,7 +147,7 @@ finish-requires-clause-may c =
     subst (λ (z : List Value × List Value). Grows a.o call_is.0 z.0 z.1 class x) (λ d. (sym same d, sym news_is d))
     (grows_on v x knows_x g.work.pass.shape (λ p mine. g.work.pass.locks p ∙ mine) a.o call_is.0 olds (with_added a.addition v olds) class call_is.2) in
     grow_finishing k a.o a.old a.table x h.rooted u h.start may h.did only first total call_is.0 a.called.now values news call_is.1 grows b.content list (ap (λ (z : View). z.shape) c.put_block.ensures.did.1 ∙ e.pass.1) changing head
-    (λ stored has. let none : (b : ℕ) → place_use b u.log ≢ use_taken = λ b taken. may.boxes.stored b (taken_before_root k a.o a.old a.table x h.rooted u h.start may h.did only b taken) in ((λ b e. absurd (none b e)), (λ b y e other. absurd (none b e))))
+    (λ stored has. let none : (b : ℕ) → place_use b u.log ≢ use_taken = λ b taken. c.requires.untaken b (sym (g.made.uses b) ∙ taken_before_root k a.o a.old a.table x h.rooted u h.start may h.did only b taken) in ((λ b e. absurd (none b e)), (λ b y e other. absurd (none b e))))
 
 pub returns-clause-wrote : goal.returns-clause-wrote
 returns-clause-wrote c =
@@ -165,13 +175,6 @@ returns-clause-root c =
     let at = list_changes a.o call_is.0 a.called.now call_is.1 call_is.2.write.changing in
     subst (λ (n : ℕ). root_in (held_unboxed n (view c.finish.new.pass)) ≡ root_in (held_unboxed n (view c.put_block.new.pass))) at c.finish.ensures.ends.root
     ∙ (root_stays _ _ _ _ (omega arith) c.put_block.ensures.unboxed ∙ c.put_added.ensures.list.root)
-
-pub begin_in-requires-clause-other : goal.begin_in-requires-clause-other
-begin_in-requires-clause-other c is =
-    let a = c.args in
-    let l = c.requires.may.list in
-    let same = (c.fill.ensures.only.keeps a.o (subst (λ (z : Shape). a.o < container_count z) (sym c.requires.pass.1) l.container) l.locked l.even).0 in
-    c.requires.other (sym (ap root_in same) ∙ is)
 
 pub returns-clause-references : goal.returns-clause-references
 returns-clause-references c b =

@@ -1,22 +1,22 @@
-use Rattle.std.proofs.Common.{◌≡◌, ℕ, ◌+◌, ◌%◌, ◌<◌, List, sym, ap, ◌∙◌, subst, arith}
+use Rattle.std.proofs.Common.{◌≡◌, ℕ, ◌+◌, ◌%◌, ◌<◌, List, sym, ap, ◌∙◌, subst, arith, get_or-set_other}
 use Rattle.std.specs.Prelude.{slice_set}
 use Rattle.ft_model.specs.declared.data.Value.{Value}
 use Rattle.ft_model.specs.Worlds.{list_of}
 use Rattle.ft_trace.specs.declared.Act.TheVariants.{PutTable}
 use Rattle.ft_trace.specs.Addresses.{class_of, size}
 use Rattle.ft_trace.specs.ContainerStates.{ContainerState, kind_in}
-use Rattle.ft_trace.specs.Holds.{held_unboxed}
+use Rattle.ft_trace.specs.Holds.{held_words, held_unboxed}
 use Rattle.ft_trace.specs.Pictures.{ContainerWords, root_in, item_field, item_offset}
 use Rattle.ft_trace.specs.ItemWords.{said_at, words_at}
 use Rattle.ft_trace.specs.WholeWrites.{IsNoValue}
 use Rattle.ft_bank.specs.Passes.{shape_of, view}
 use Rattle.ft_bank.specs.TableNames.{table_id}
 use Rattle.ft_bank.specs.Whole.{OnlyPut}
-use Rattle.ft_bank.proofs.KnownAfterWrites.{loaded_put, put_by, put_then, work_knows}
+use Rattle.ft_bank.proofs.KnownAfterWrites.{loaded_held, loaded_put, put_by, put_then, work_knows}
 use Rattle.ft_list.specs.ListItemWrites.{known_items}
 use Rattle.ft_list.proofs.Cares.{few_slots, inside, close_care, far_word, item_room, set_own, writes_on}
 use Rattle.ft_list.proofs.items.close_item.Goals as goal
-use Rattle.ft_list.proofs.items.close_item.Goals.{After-put_word}
+use Rattle.ft_list.proofs.items.close_item.Goals.{After-put_word, After-read_version-version}
 
 pub word_at-requires-clause-place : goal.word_at-requires-clause-place
 word_at-requires-clause-place c =
@@ -105,3 +105,19 @@ returns-else-version-eq1-clause-references c = c.read_version-version.ensures.on
 pub returns-then-version-eq1-clause-references : goal.returns-then-version-eq1-clause-references
 returns-then-version-eq1-clause-references c b =
     c.put_word.ensures.same (far (goal.at.returns-then-version-eq1-clause-references c).After-put_word) b ∙ c.read_version-version.ensures.only.boxes.references b
+
+same_words : (c : After-read_version-version) → held_words c.args.o (view c.read_version-version.new.pass) ≡ held_words c.args.o (view c.args.pass.now)
+same_words c = loaded_held (view c.args.pass.now) (view c.read_version-version.new.pass) c.args.o c.read_version-version.ensures.only
+
+pub returns-else-version-eq1-clause-values : goal.returns-else-version-eq1-clause-values
+returns-else-version-eq1-clause-values c place word some_ few =
+    ap (λ (x : ContainerWords). item_field x.table place word) (same_words (goal.at.returns-else-version-eq1-clause-values c).After-read_version-version)
+
+pub returns-then-version-eq1-clause-values : goal.returns-then-version-eq1-clause-values
+returns-then-version-eq1-clause-values c place word some_ few =
+    let a = c.args in
+    let at = c.word_at.ensures in
+    let T = (held_words a.o (view c.read_version-version.new.pass)).table in
+    ap (λ (x : ContainerWords). item_field x.table place word) c.put_word.ensures.held
+    ∙ (get_or-set_other T c.word_at.result (item_offset place word) (c.read_version-version.result + 1) 0 (λ e. omega (arith, e, at, some_, few))
+    ∙ ap (λ (x : ContainerWords). item_field x.table place word) (same_words (goal.at.returns-then-version-eq1-clause-values c).After-read_version-version))

@@ -45,6 +45,7 @@ loop-place-preserved c =
       only = put_then v w z a.o i.only e.only;
       references = λ b. e.references b ∙ i.references b;
       block = ap (λ (x : ContainerWords). x.block) e.item.words ∙ i.block;
+      values = λ q m some_ few. e.values q m some_ few ∙ i.values q m some_ few;
       changing = subst (λ (n : ℕ). IsChanging class (known_items a.o v) (known_items a.o v) n a.past (held_unboxed a.o z).table) (sym next)
           (changing_closed class (known_items a.o v) (known_items a.o v) c.loop-place.place a.past (held_unboxed a.o w).table i.changing
           (λ mask values words place version table. laws.items mask values words _ (laws.item words place version) table)

@@ -7,6 +7,7 @@ use Rattle.ft_bank.specs.PassSections.{stack_of}
 use Rattle.ft_bank.specs.SameBoxes.{SameReferences}
 use Rattle.ft_bank.specs.TableNames.{table_id}
 use Rattle.ft_bank.specs.Whole.{OnlyPut}
+use Rattle.ft_list.specs.Internal.Carrying.{KeepsItemValues}
 use Rattle.ft_list.specs.ListItemWrites.{WritesList, IsChanging, known_items}
 use Rattle.ft_list.proofs.items.close_items.Given as goal
 
@@ -20,5 +21,6 @@ invariant-loop-place l =
       only : OnlyPut l.o (view l.initial.pass) (view l.pass);
       references : SameReferences (view l.initial.pass) (view l.pass);
       block : (held_unboxed l.o (view l.pass)).block ≡ (held_unboxed l.o (view l.initial.pass)).block;
+      values : KeepsItemValues l.o (view l.initial.pass) (view l.pass);
       changing : IsChanging (class_of (table_id l.table)) (known_items l.o (view l.initial.pass)) (known_items l.o (view l.initial.pass)) l.place l.past (held_unboxed l.o (view l.pass)).table;
     }

@@ -7,8 +7,8 @@ use Rattle.ft_trace.specs.Addresses.{class_of}
 use Rattle.ft_trace.specs.declared.Act.TheVariants.{StopWrite}
 use Rattle.ft_trace.specs.Acts.{view_after}
 use Rattle.ft_trace.specs.ContainerStates.{ContainerState, changes}
-use Rattle.ft_trace.specs.Pictures.{root_in, Represents}
-use Rattle.ft_trace.specs.Holds.{held_unboxed, known_state}
+use Rattle.ft_trace.specs.Pictures.{item_field, root_in, Represents}
+use Rattle.ft_trace.specs.Holds.{held_words, held_unboxed, known_state}
 use Rattle.ft_bank.specs.Passes.{shape_of, view}
 use Rattle.ft_bank.specs.TableNames.{table_id}
 use Rattle.ft_bank.specs.Whole.{OnlyPut}
@@ -82,3 +82,8 @@ returns-clause-stored c b taken =
     let used = λ (z : View). place_use b z.log in
     let was : place_use b (view c.commit-number.new.pass).log ≡ 1 = sym (ap used c.stop_write.ensures.1 ∙ c.close_items.ensures.only.made.uses b) ∙ taken in
     none_taken (place_use b (view c.args.pass.now).log) (sym (ap used c.commit-number.ensures.did.1.1) ∙ was)
+
+pub returns-clause-values : goal.returns-clause-values
+returns-clause-values c place word some_ few =
+    let field = λ (z : View). item_field (held_words c.args.o z).table place word in
+    ap field c.stop_write.ensures.1 ∙ (c.close_items.ensures.values place word some_ few ∙ ap field c.commit-number.ensures.did.1.1)

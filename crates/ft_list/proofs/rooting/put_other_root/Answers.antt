@@ -22,7 +22,7 @@ put_root-requires-clause-may c = subst (λ (z : View). MayPutRoot z c.args.o c.a
 -- the put as one of the view before
 module _ (c : After-put_root) where
   rooted_is : view c.put_root.new.pass ≡ view_after (PutRoot c.args.o (root_for c.args.root) (root_in (held_words c.args.o (view c.args.pass.now)))) (view_after (StartWrite c.args.o c.start_write.result) (view c.args.pass.now))
-  rooted_is = put_is (shape_of c.args.bank.now) c.args.o c.args.old c.args.root (view c.args.pass.now) (view c.start_write.new.pass) (view c.put_root.new.pass) c.start_write.result c.requires.pass.1 c.requires.list c.requires.settled c.requires.plain c.start_write.ensures.1 c.put_root.ensures.did.1 c.put_root.ensures.held c.put_root.ensures.moves
+  rooted_is = put_is (shape_of c.args.bank.now) c.args.o c.args.old c.args.root (view c.args.pass.now) (view c.start_write.new.pass) (view c.put_root.new.pass) c.start_write.result c.requires.pass.1 c.requires.list c.requires.settled c.start_write.ensures.1 c.put_root.ensures.did.1 c.put_root.ensures.held c.put_root.ensures.moves
 
   keeps_is : KeepsUnwritten (view_after (StartWrite c.args.o c.start_write.result) (view c.args.pass.now)) (view c.put_root.new.pass)
   keeps_is = subst (λ (z : View). KeepsUnwritten z (view c.put_root.new.pass)) c.start_write.ensures.1 c.put_root.ensures.keeps
@@ -46,7 +46,7 @@ pub drop_values-requires-clause-table : goal.drop_values-requires-clause-table
 drop_values-requires-clause-table c = c.requires.list.table_in c.in-Some.table c.in-Some.is
 
 pub drop_values-requires-clause-out : goal.drop_values-requires-clause-out
-drop_values-requires-clause-out c = old_out (shape_of c.args.bank.now) c.args.o c.args.old c.args.root (view c.args.pass.now) (view c.start_write.new.pass) (view c.put_root.new.pass) c.start_write.result c.requires.pass.1 c.requires.list c.requires.settled c.requires.plain c.start_write.ensures.1 c.put_root.ensures.did.1 c.put_root.ensures.held c.put_root.ensures.moves (table_id c.in-Some.table) (c.requires.list.root ∙ ap root_for c.in-Some.is) (named (shape_of c.args.bank.now) c.in-Some.table (c.requires.list.table_in c.in-Some.table c.in-Some.is)) (λ e. c.requires.other (ap root_for c.in-Some.is ∙ e))
+drop_values-requires-clause-out c = old_out (shape_of c.args.bank.now) c.args.o c.args.old c.args.root (view c.args.pass.now) (view c.start_write.new.pass) (view c.put_root.new.pass) c.start_write.result c.requires.pass.1 c.requires.list c.requires.settled c.start_write.ensures.1 c.put_root.ensures.did.1 c.put_root.ensures.held c.put_root.ensures.moves c.requires.plain (table_id c.in-Some.table) (c.requires.list.root ∙ ap root_for c.in-Some.is) (named (shape_of c.args.bank.now) c.in-Some.table (c.requires.list.table_in c.in-Some.table c.in-Some.is)) (λ e. c.requires.other (ap root_for c.in-Some.is ∙ e))
 
 pub drop_values-requires-clause-places : goal.drop_values-requires-clause-places
 drop_values-requires-clause-places c =
@@ -54,10 +54,10 @@ drop_values-requires-clause-places c =
     subst (λ (z : Kind × ℕ). AreValuePlaces z.0 z.1 c.item_places.result) (λ d. (sym c.requires.list.kind d, sym (class_is c.in-Some.table t_in.2) d)) c.item_places.ensures
 
 pub drop_values-requires-clause-settled : goal.drop_values-requires-clause-settled
-drop_values-requires-clause-settled c = put_settled (shape_of c.args.bank.now) c.args.o c.args.old c.args.root (view c.args.pass.now) (view c.start_write.new.pass) (view c.put_root.new.pass) c.start_write.result c.requires.pass.1 c.requires.list c.requires.settled c.requires.plain c.start_write.ensures.1 c.put_root.ensures.did.1 c.put_root.ensures.held c.put_root.ensures.moves
+drop_values-requires-clause-settled c = put_settled (shape_of c.args.bank.now) c.args.o c.args.old c.args.root (view c.args.pass.now) (view c.start_write.new.pass) (view c.put_root.new.pass) c.start_write.result c.requires.pass.1 c.requires.list c.requires.settled c.start_write.ensures.1 c.put_root.ensures.did.1 c.put_root.ensures.held c.put_root.ensures.moves
 
 pub drop_values-requires-clause-held : goal.drop_values-requires-clause-held
-drop_values-requires-clause-held c = old_held (shape_of c.args.bank.now) c.args.o c.args.old c.args.root (view c.args.pass.now) (view c.start_write.new.pass) (view c.put_root.new.pass) c.start_write.result c.requires.pass.1 c.requires.list c.requires.settled c.requires.plain c.start_write.ensures.1 c.put_root.ensures.did.1 c.put_root.ensures.held c.put_root.ensures.moves (table_id c.in-Some.table) (c.requires.list.root ∙ ap root_for c.in-Some.is) (named (shape_of c.args.bank.now) c.in-Some.table (c.requires.list.table_in c.in-Some.table c.in-Some.is)) (λ e. c.requires.other (ap root_for c.in-Some.is ∙ e))
+drop_values-requires-clause-held c = old_held (shape_of c.args.bank.now) c.args.o c.args.old c.args.root (view c.args.pass.now) (view c.start_write.new.pass) (view c.put_root.new.pass) c.start_write.result c.requires.pass.1 c.requires.list c.requires.settled c.start_write.ensures.1 c.put_root.ensures.did.1 c.put_root.ensures.held c.put_root.ensures.moves c.requires.plain (table_id c.in-Some.table) (c.requires.list.root ∙ ap root_for c.in-Some.is) (named (shape_of c.args.bank.now) c.in-Some.table (c.requires.list.table_in c.in-Some.table c.in-Some.is)) (λ e. c.requires.other (ap root_for c.in-Some.is ∙ e))
 
 pub returns-in-Some-clause-rooted : goal.returns-in-Some-clause-rooted
 returns-in-Some-clause-rooted c =
@@ -68,17 +68,17 @@ returns-in-Some-clause-rooted c =
       did = rooted_is d;
       keeps = keeps_is d;
       moves = moves_is d;
-      only = dropped_only (shape_of c.args.bank.now) c.args.o c.args.old c.args.root (view c.args.pass.now) (view c.start_write.new.pass) (view c.put_root.new.pass) c.start_write.result c.requires.pass.1 c.requires.list c.requires.settled c.requires.plain c.start_write.ensures.1 c.put_root.ensures.did.1 c.put_root.ensures.held c.put_root.ensures.moves (table_id c.in-Some.table) (c.requires.list.root ∙ ap root_for c.in-Some.is) (named (shape_of c.args.bank.now) c.in-Some.table (c.requires.list.table_in c.in-Some.table c.in-Some.is)) (λ e. c.requires.other (ap root_for c.in-Some.is ∙ e)) (view c.drop_values.new.pass) c.drop_values.ensures.only c.drop_values.ensures.made c.drop_values.ensures.references;
+      only = dropped_only (shape_of c.args.bank.now) c.args.o c.args.old c.args.root (view c.args.pass.now) (view c.start_write.new.pass) (view c.put_root.new.pass) c.start_write.result c.requires.pass.1 c.requires.list c.requires.settled c.start_write.ensures.1 c.put_root.ensures.did.1 c.put_root.ensures.held c.put_root.ensures.moves c.requires.plain (table_id c.in-Some.table) (c.requires.list.root ∙ ap root_for c.in-Some.is) (named (shape_of c.args.bank.now) c.in-Some.table (c.requires.list.table_in c.in-Some.table c.in-Some.is)) (λ e. c.requires.other (ap root_for c.in-Some.is ∙ e)) (view c.drop_values.new.pass) c.drop_values.ensures.only c.drop_values.ensures.made c.drop_values.ensures.references;
     }
 
 pub returns-in-Some-clause-settled : goal.returns-in-Some-clause-settled
-returns-in-Some-clause-settled c = dropped_settled (shape_of c.args.bank.now) c.args.o c.args.old c.args.root (view c.args.pass.now) (view c.start_write.new.pass) (view c.put_root.new.pass) c.start_write.result c.requires.pass.1 c.requires.list c.requires.settled c.requires.plain c.start_write.ensures.1 c.put_root.ensures.did.1 c.put_root.ensures.held c.put_root.ensures.moves (table_id c.in-Some.table) (c.requires.list.root ∙ ap root_for c.in-Some.is) (named (shape_of c.args.bank.now) c.in-Some.table (c.requires.list.table_in c.in-Some.table c.in-Some.is)) (λ e. c.requires.other (ap root_for c.in-Some.is ∙ e)) (view c.drop_values.new.pass) c.drop_values.ensures.only c.drop_values.ensures.made c.drop_values.ensures.references
+returns-in-Some-clause-settled c = dropped_settled (shape_of c.args.bank.now) c.args.o c.args.old c.args.root (view c.args.pass.now) (view c.start_write.new.pass) (view c.put_root.new.pass) c.start_write.result c.requires.pass.1 c.requires.list c.requires.settled c.start_write.ensures.1 c.put_root.ensures.did.1 c.put_root.ensures.held c.put_root.ensures.moves c.requires.plain (table_id c.in-Some.table) (c.requires.list.root ∙ ap root_for c.in-Some.is) (named (shape_of c.args.bank.now) c.in-Some.table (c.requires.list.table_in c.in-Some.table c.in-Some.is)) (λ e. c.requires.other (ap root_for c.in-Some.is ∙ e)) (view c.drop_values.new.pass) c.drop_values.ensures.only c.drop_values.ensures.made c.drop_values.ensures.references
 
 pub returns-in-Some-clause-references : goal.returns-in-Some-clause-references
-returns-in-Some-clause-references c = dropped_same (shape_of c.args.bank.now) c.args.o c.args.old c.args.root (view c.args.pass.now) (view c.start_write.new.pass) (view c.put_root.new.pass) c.start_write.result c.requires.pass.1 c.requires.list c.requires.settled c.requires.plain c.start_write.ensures.1 c.put_root.ensures.did.1 c.put_root.ensures.held c.put_root.ensures.moves (table_id c.in-Some.table) (c.requires.list.root ∙ ap root_for c.in-Some.is) (named (shape_of c.args.bank.now) c.in-Some.table (c.requires.list.table_in c.in-Some.table c.in-Some.is)) (λ e. c.requires.other (ap root_for c.in-Some.is ∙ e)) (view c.drop_values.new.pass) c.drop_values.ensures.only c.drop_values.ensures.made c.drop_values.ensures.references
+returns-in-Some-clause-references c = dropped_same (shape_of c.args.bank.now) c.args.o c.args.old c.args.root (view c.args.pass.now) (view c.start_write.new.pass) (view c.put_root.new.pass) c.start_write.result c.requires.pass.1 c.requires.list c.requires.settled c.start_write.ensures.1 c.put_root.ensures.did.1 c.put_root.ensures.held c.put_root.ensures.moves c.requires.plain (table_id c.in-Some.table) (c.requires.list.root ∙ ap root_for c.in-Some.is) (named (shape_of c.args.bank.now) c.in-Some.table (c.requires.list.table_in c.in-Some.table c.in-Some.is)) (λ e. c.requires.other (ap root_for c.in-Some.is ∙ e)) (view c.drop_values.new.pass) c.drop_values.ensures.only c.drop_values.ensures.made c.drop_values.ensures.references
 
 pub returns-in-Some-clause-words : goal.returns-in-Some-clause-words
-returns-in-Some-clause-words c = dropped_reads (shape_of c.args.bank.now) c.args.o c.args.old c.args.root (view c.args.pass.now) (view c.start_write.new.pass) (view c.put_root.new.pass) c.start_write.result c.requires.pass.1 c.requires.list c.requires.settled c.requires.plain c.start_write.ensures.1 c.put_root.ensures.did.1 c.put_root.ensures.held c.put_root.ensures.moves (table_id c.in-Some.table) (c.requires.list.root ∙ ap root_for c.in-Some.is) (named (shape_of c.args.bank.now) c.in-Some.table (c.requires.list.table_in c.in-Some.table c.in-Some.is)) (λ e. c.requires.other (ap root_for c.in-Some.is ∙ e)) (view c.drop_values.new.pass) c.drop_values.ensures.only c.drop_values.ensures.made c.drop_values.ensures.references ∙ reads_is (goal.at.returns-in-Some-clause-words c).After-put_root
+returns-in-Some-clause-words c = dropped_reads (shape_of c.args.bank.now) c.args.o c.args.old c.args.root (view c.args.pass.now) (view c.start_write.new.pass) (view c.put_root.new.pass) c.start_write.result c.requires.pass.1 c.requires.list c.requires.settled c.start_write.ensures.1 c.put_root.ensures.did.1 c.put_root.ensures.held c.put_root.ensures.moves c.requires.plain (table_id c.in-Some.table) (c.requires.list.root ∙ ap root_for c.in-Some.is) (named (shape_of c.args.bank.now) c.in-Some.table (c.requires.list.table_in c.in-Some.table c.in-Some.is)) (λ e. c.requires.other (ap root_for c.in-Some.is ∙ e)) (view c.drop_values.new.pass) c.drop_values.ensures.only c.drop_values.ensures.made c.drop_values.ensures.references ∙ reads_is (goal.at.returns-in-Some-clause-words c).After-put_root
 
 -- ---- one that had none
 
@@ -95,10 +95,10 @@ returns-in-None-clause-rooted c =
     }
 
 pub returns-in-None-clause-settled : goal.returns-in-None-clause-settled
-returns-in-None-clause-settled c = put_settled (shape_of c.args.bank.now) c.args.o c.args.old c.args.root (view c.args.pass.now) (view c.start_write.new.pass) (view c.put_root.new.pass) c.start_write.result c.requires.pass.1 c.requires.list c.requires.settled c.requires.plain c.start_write.ensures.1 c.put_root.ensures.did.1 c.put_root.ensures.held c.put_root.ensures.moves
+returns-in-None-clause-settled c = put_settled (shape_of c.args.bank.now) c.args.o c.args.old c.args.root (view c.args.pass.now) (view c.start_write.new.pass) (view c.put_root.new.pass) c.start_write.result c.requires.pass.1 c.requires.list c.requires.settled c.start_write.ensures.1 c.put_root.ensures.did.1 c.put_root.ensures.held c.put_root.ensures.moves
 
 pub returns-in-None-clause-references : goal.returns-in-None-clause-references
-returns-in-None-clause-references c = put_same (shape_of c.args.bank.now) c.args.o c.args.old c.args.root (view c.args.pass.now) (view c.start_write.new.pass) (view c.put_root.new.pass) c.start_write.result c.requires.pass.1 c.requires.list c.requires.settled c.requires.plain c.start_write.ensures.1 c.put_root.ensures.did.1 c.put_root.ensures.held c.put_root.ensures.moves (c.requires.list.root ∙ ap root_for c.in-None.is)
+returns-in-None-clause-references c = put_same (shape_of c.args.bank.now) c.args.o c.args.old c.args.root (view c.args.pass.now) (view c.start_write.new.pass) (view c.put_root.new.pass) c.start_write.result c.requires.pass.1 c.requires.list c.requires.settled c.start_write.ensures.1 c.put_root.ensures.did.1 c.put_root.ensures.held c.put_root.ensures.moves c.requires.plain (c.requires.list.root ∙ ap root_for c.in-None.is)
 
 pub returns-in-None-clause-words : goal.returns-in-None-clause-words
 returns-in-None-clause-words c = reads_is (goal.at.returns-in-None-clause-words c).After-put_root

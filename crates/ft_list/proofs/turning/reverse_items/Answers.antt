@@ -9,6 +9,7 @@ use Rattle.ft_trace.specs.Holds.{held_unboxed}
 use Rattle.ft_bank.specs.Passes.{shape_of, view}
 use Rattle.ft_bank.specs.TableNames.{table_id}
 use Rattle.ft_list.proofs.Lists.{begins}
+use Rattle.ft_search.proofs.Overs.{held_same}
 use Rattle.ft_list.specs.ListItemWrites.{known_items}
 use Rattle.ft_list.specs.Internal.Reversing.{IsTurning}
 use Rattle.ft_list.proofs.Cares.{table_class}
@@ -75,8 +76,12 @@ returns-clause-references c b =
     let begun : (n : ℕ) → references_held (view c.begin.new.pass).shape n (view c.begin.new.pass).log ≡ references_held (view c.args.pass.now).shape n (view c.args.pass.now).log = λ n. ap (λ (z : View). references_held z.shape n z.log) c.begin.ensures.did.1.1 in
     c.finish.ensures.references b ∙ (c.turn.ensures.references b ∙ begun b)
 
-pub turn-requires-clause-before : goal.turn-requires-clause-before
-turn-requires-clause-before c = (known_items c.args.o (view c.args.pass.now), sym c.requires.count, c.begin.ensures.putting 0 c.args.count)
-
 pub begin-requires-clause-may : goal.begin-requires-clause-may
 begin-requires-clause-may c = begins (shape_of c.args.bank.now) c.args.o (view c.args.pass.now) c.requires.pass.1 c.requires.may
+
+pub turn-requires-clause-spare : goal.turn-requires-clause-spare
+turn-requires-clause-spare c b =
+    let k = shape_of c.args.bank.now in
+    let begun = held_same k (view c.args.pass.now) (view c.begin.new.pass) c.requires.pass.1 c.begin.ensures.pass.1 (λ n. ap (λ (z : View). references_held z.shape n z.log) c.begin.ensures.did.1.1) b in
+    let none = c.requires.may.boxes.none b in
+    omega (arith, begun, none)

@@ -4,6 +4,7 @@ use Rattle.ft_trace.specs.Holds.{held_unboxed}
 use Rattle.ft_bank.specs.Passes.{shape_of, view}
 use Rattle.ft_bank.specs.TableNames.{table_id}
 use Rattle.ft_bank.proofs.KnownAfterWrites.{written_then}
+use Rattle.ft_search.proofs.Overs.{held_same}
 use Rattle.ft_list.specs.ListItemWrites.{IsPutting, stored_item}
 use Rattle.ft_list.specs.Internal.Reversing.{IsTurning}
 use Rattle.ft_list.proofs.Cares.{table_class}
@@ -53,5 +54,8 @@ returns-clause-turned c values long putting =
     let at : c.loop-at.at ≡ a.count / 2 = let t = c.loop-at-test.false in let e = c.loop-at.auto.at-end in omega (arith, t, e) in
     subst (λ (n : ℕ). IsTurning (class_of (table_id a.table)) values n (held_unboxed a.o (view c.loop-at.pass)).table) at (c.loop-at.invariant.turning values long putting)
 
-pub swap-requires-clause-before : goal.swap-requires-clause-before
-swap-requires-clause-before c = let b = c.requires.before in (b.0, b.1, c.loop-at.invariant.turning b.0 b.1 b.2)
+pub swap-requires-clause-spare : goal.swap-requires-clause-spare
+swap-requires-clause-spare c b =
+    let same = held_same (shape_of c.args.bank.now) (view c.args.pass.now) (view c.loop-at.pass) c.requires.pass.1 c.loop-at.invariant.pass.1 c.loop-at.invariant.references b in
+    let s = c.requires.spare b in
+    omega (arith, same, s)

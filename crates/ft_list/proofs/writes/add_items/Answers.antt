@@ -14,6 +14,7 @@ use Rattle.ft_bank.specs.TableNames.{table_id}
 use Rattle.ft_bank.specs.Whole.{OnlyWritten}
 use Rattle.ft_bank.proofs.KnownAfterWrites.{put_by, put_written, written_then}
 use Rattle.ft_list.proofs.Lists.{begins}
+use Rattle.ft_search.proofs.Overs.{held_same}
 use Rattle.ft_list.specs.ListItemWrites.{IsPutting, known_items, stored_item}
 use Rattle.ft_list.specs.Internal.Moving.{IsMoving}
 use Rattle.ft_list.specs.Internal.Additions.{count_in, first_in, with_added}
@@ -115,3 +116,10 @@ returns-clause-references c b =
 
 pub begin-requires-clause-may : goal.begin-requires-clause-may
 begin-requires-clause-may c = begins (shape_of c.args.bank.now) c.args.o (view c.args.pass.now) c.requires.pass.1 c.requires.may
+
+pub put_added-requires-clause-spare : goal.put_added-requires-clause-spare
+put_added-requires-clause-spare c b =
+    let k = shape_of c.args.bank.now in
+    let begun = held_same k (view c.args.pass.now) (view c.begin.new.pass) c.requires.pass.1 c.begin.ensures.pass.1 (λ n. ap (λ (z : View). references_held z.shape n z.log) c.begin.ensures.did.1.1) b in
+    let none = c.requires.may.boxes.none b in
+    omega (arith, begun, none)

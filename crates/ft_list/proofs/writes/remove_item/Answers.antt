@@ -13,6 +13,7 @@ use Rattle.ft_bank.specs.TableNames.{table_id}
 use Rattle.ft_bank.specs.Whole.{OnlyWritten}
 use Rattle.ft_bank.proofs.KnownAfterWrites.{put_by, put_written, written_then}
 use Rattle.ft_list.proofs.Lists.{begins}
+use Rattle.ft_search.proofs.Overs.{held_same}
 use Rattle.ft_list.specs.ListItemWrites.{known_items}
 use Rattle.ft_list.specs.Internal.Moving.{IsMoving}
 use Rattle.ft_list.proofs.Cares.{table_class, writes_on}
@@ -20,9 +21,6 @@ use Rattle.ft_list.proofs.FinishedWrites.{with_count, root_stays}
 use Rattle.ft_list.proofs.ItemWordsPut.{stored_none, moving_ends, long_remove}
 use Rattle.ft_list.proofs.WholeListWrites.{finishing, list_wrote, root_wrote, stores_none}
 use Rattle.ft_list.proofs.writes.remove_item.Goals as goal
-
-pub shift_down-requires-clause-before : goal.shift_down-requires-clause-before
-shift_down-requires-clause-before c = (known_items c.args.o (view c.args.pass.now), sym c.requires.count, c.begin.ensures.putting c.args.place c.args.count)
 
 pub finish-requires-clause-may : goal.finish-requires-clause-may
 finish-requires-clause-may c =
@@ -95,3 +93,10 @@ returns-clause-references c b =
 
 pub begin-requires-clause-may : goal.begin-requires-clause-may
 begin-requires-clause-may c = begins (shape_of c.args.bank.now) c.args.o (view c.args.pass.now) c.requires.pass.1 c.requires.may
+
+pub shift_down-requires-clause-spare : goal.shift_down-requires-clause-spare
+shift_down-requires-clause-spare c b =
+    let k = shape_of c.args.bank.now in
+    let begun = held_same k (view c.args.pass.now) (view c.begin.new.pass) c.requires.pass.1 c.begin.ensures.pass.1 (λ n. ap (λ (z : View). references_held z.shape n z.log) c.begin.ensures.did.1.1) b in
+    let none = c.requires.may.boxes.none b in
+    omega (arith, begun, none)

@@ -152,3 +152,9 @@ returns-clause-references c b =
     let put = c.put_item.ensures.references b in
     let done = held_same k u w c.put_item.ensures.pass.1 c.finish.ensures.pass.1 c.finish.ensures.references b in
     omega (arith, begun, put, done)
+
+pub returns-clause-boxed : goal.returns-clause-boxed
+returns-clause-boxed c four =
+    let e = c.put_item.ensures.boxed four in
+    let f = c.finish.ensures.values c.args.place in
+    (f 1 (omega arith) (omega arith) ∙ e.0, f 2 (omega arith) (omega arith) ∙ e.1)

@@ -3,18 +3,14 @@ use Rattle.std.specs.Prelude.{slice_set}
 use Rattle.ft_trace.specs.declared.View.{View}
 use Rattle.ft_trace.specs.Acts.{stage}
 use Rattle.ft_trace.specs.Boxes.{IsSettled}
-use Rattle.ft_trace.specs.Addresses.{class_of}
-use Rattle.ft_trace.specs.ContainerStates.{kind_in}
-use Rattle.ft_trace.specs.Holds.{held_unboxed, hand_unboxed, in_hand}
-use Rattle.ft_trace.specs.Kinds.{rows}
+use Rattle.ft_trace.specs.Holds.{held_unboxed, hand_unboxed}
 use Rattle.ft_bank.specs.declared.table.Table.{Table}
 use Rattle.ft_bank.specs.Passes.{shape_of, view}
 use Rattle.ft_bank.specs.TableNames.{table_id, IsTableIn}
 use Rattle.ft_bank.specs.WriteSteps.{MayPutRoot}
-use Rattle.ft_table_calls.proofs.PlainTables.{ArePlain}
-use Rattle.ft_new_keys.specs.KeyGrowth.{HoldsOld}
-use Rattle.ft_new_keys.proofs.Begun.{begins, begun_references, begun_words, begun_writes, held_old, settled_r, was_out}
-use Rattle.ft_new_keys.proofs.Rooted.{may_root, plain_here, reads_here}
+use Rattle.ft_new_keys.specs.Moving.{HoldsGone}
+use Rattle.ft_new_keys.proofs.Begun.{begins, begun_references, begun_words, begun_writes, held_gone, settled_r, was_out}
+use Rattle.ft_new_keys.proofs.Rooted.{may_root}
 use Rattle.ft_new_keys.proofs.growth.begin_in.Goals as goal
 use Rattle.ft_new_keys.proofs.growth.begin_in.Goals.{After-put_root}
 
@@ -22,12 +18,7 @@ pub put_root-requires-clause-may : goal.put_root-requires-clause-may
 put_root-requires-clause-may c =
     let a = c.args in
     subst (λ (u : View). MayPutRoot u a.o (Some a.table)) (sym c.start_write.ensures.1)
-    (may_root c.used_entries_follow_a_dict.ensures.first c.used_entries_follow_a_set.ensures.first c.words_are_of_one_content.ensures.head (shape_of a.bank.now) a.o a.old a.table (view a.pass.now) c.requires.may c.requires.pass.1 a.pass.now.possible c.requires.filled c.start_write.result)
-
-plain : (c : After-put_root) → ArePlain (kind_in (view c.args.pass.now).shape.starts c.args.o) (class_of (table_id c.args.table)) (in_hand (table_id c.args.table) (view c.args.pass.now)) (rows (kind_in (view c.args.pass.now).shape.starts c.args.o) (class_of (table_id c.args.table)))
-plain c =
-    let a = c.args in
-    plain_here c.used_entries_follow_a_dict.ensures.first c.used_entries_follow_a_set.ensures.first c.words_are_of_one_content.ensures.head (shape_of a.bank.now) a.o a.old a.table (view a.pass.now) c.requires.may c.requires.pass.1 a.pass.now.possible c.requires.filled
+    (may_root c.used_entries_follow_a_dict.ensures.first c.used_entries_follow_a_set.ensures.first c.words_are_of_one_content.ensures.head (shape_of a.bank.now) a.o a.old a.table (view a.pass.now) c.requires.may c.requires.pass.1 a.pass.now.possible c.requires.moved c.start_write.result)
 
 -- ---- right after the root was put
 
@@ -35,28 +26,28 @@ out : (c : After-put_root) (t : Table) → c.args.old ≡ Some t → IsTableIn (
 out c =
     let a = c.args in
     let p = c.put_root.ensures in
-    was_out (shape_of a.bank.now) a.o a.old a.table (view a.pass.now) (view c.start_write.new.pass) (view c.put_root.new.pass) c.start_write.result c.requires.pass.1 a.pass.now.possible c.requires.may (plain c) c.start_write.ensures.1 p.did.1 p.keeps p.moves p.held
+    was_out (shape_of a.bank.now) a.o a.old a.table (view a.pass.now) (view c.start_write.new.pass) (view c.put_root.new.pass) c.start_write.result c.requires.pass.1 a.pass.now.possible c.requires.may c.requires.moved c.start_write.ensures.1 p.did.1 p.keeps p.moves p.held
 
 settled : (c : After-put_root) → IsSettled (view c.put_root.new.pass).log
 settled c =
     let a = c.args in
     let p = c.put_root.ensures in
-    settled_r (shape_of a.bank.now) a.o a.old a.table (view a.pass.now) (view c.start_write.new.pass) (view c.put_root.new.pass) c.start_write.result c.requires.pass.1 a.pass.now.possible c.requires.may (plain c) c.start_write.ensures.1 p.did.1 p.keeps p.moves p.held
+    settled_r (shape_of a.bank.now) a.o a.old a.table (view a.pass.now) (view c.start_write.new.pass) (view c.put_root.new.pass) c.start_write.result c.requires.pass.1 a.pass.now.possible c.requires.may c.requires.moved c.start_write.ensures.1 p.did.1 p.keeps p.moves p.held
 
-held : (c : After-put_root) → HoldsOld (shape_of c.args.bank.now) c.args.o c.args.old (view c.put_root.new.pass)
+held : (c : After-put_root) → HoldsGone (shape_of c.args.bank.now) c.args.o c.args.old (view c.put_root.new.pass)
 held c =
     let a = c.args in
     let p = c.put_root.ensures in
-    held_old (shape_of a.bank.now) a.o a.old a.table (view a.pass.now) (view c.start_write.new.pass) (view c.put_root.new.pass) c.start_write.result c.requires.pass.1 a.pass.now.possible c.requires.may (plain c) c.start_write.ensures.1 p.did.1 p.keeps p.moves p.held
+    held_gone (shape_of a.bank.now) a.o a.old a.table (view a.pass.now) (view c.start_write.new.pass) (view c.put_root.new.pass) c.start_write.result c.requires.pass.1 a.pass.now.possible c.requires.may c.requires.moved c.start_write.ensures.1 p.did.1 p.keeps p.moves p.held
 
-pub drop_old-requires-clause-out : goal.drop_old-requires-clause-out
-drop_old-requires-clause-out c = out (goal.at.drop_old-requires-clause-out c).After-put_root
+pub drop_gone-requires-clause-out : goal.drop_gone-requires-clause-out
+drop_gone-requires-clause-out c = out (goal.at.drop_gone-requires-clause-out c).After-put_root
 
-pub drop_old-requires-clause-settled : goal.drop_old-requires-clause-settled
-drop_old-requires-clause-settled c = settled (goal.at.drop_old-requires-clause-settled c).After-put_root
+pub drop_gone-requires-clause-settled : goal.drop_gone-requires-clause-settled
+drop_gone-requires-clause-settled c = settled (goal.at.drop_gone-requires-clause-settled c).After-put_root
 
-pub drop_old-requires-clause-held : goal.drop_old-requires-clause-held
-drop_old-requires-clause-held c = held (goal.at.drop_old-requires-clause-held c).After-put_root
+pub drop_gone-requires-clause-held : goal.drop_gone-requires-clause-held
+drop_gone-requires-clause-held c = held (goal.at.drop_gone-requires-clause-held c).After-put_root
 
 -- ---- after the references were dropped
 
@@ -64,36 +55,34 @@ pub returns-clause-begins : goal.returns-clause-begins
 returns-clause-begins c =
     let a = c.args in
     let p = c.put_root.ensures in
-    let e = c.drop_old.ensures in
-    begins (shape_of a.bank.now) a.o a.old a.table (view a.pass.now) (view c.start_write.new.pass) (view c.put_root.new.pass) c.start_write.result c.requires.pass.1 a.pass.now.possible c.requires.may (plain (goal.at.returns-clause-begins c).After-put_root) c.start_write.ensures.1 p.did.1 p.keeps p.moves p.held
-    (view c.drop_old.new.pass) e.only e.made e.references
+    let e = c.drop_gone.ensures in
+    begins (shape_of a.bank.now) a.o a.old a.table (view a.pass.now) (view c.start_write.new.pass) (view c.put_root.new.pass) c.start_write.result c.requires.pass.1 a.pass.now.possible c.requires.may c.requires.moved c.start_write.ensures.1 p.did.1 p.keeps p.moves p.held
+    (view c.drop_gone.new.pass) e.only e.made e.references
 
 pub returns-clause-writes : goal.returns-clause-writes
 returns-clause-writes c =
     let a = c.args in
     let p = c.put_root.ensures in
-    let e = c.drop_old.ensures in
-    begun_writes (shape_of a.bank.now) a.o a.old a.table (view a.pass.now) (view c.start_write.new.pass) (view c.put_root.new.pass) c.start_write.result c.requires.pass.1 a.pass.now.possible c.requires.may (plain (goal.at.returns-clause-writes c).After-put_root) c.start_write.ensures.1 p.did.1 p.keeps p.moves p.held
-    (view c.drop_old.new.pass) e.only e.made e.references
+    let e = c.drop_gone.ensures in
+    begun_writes (shape_of a.bank.now) a.o a.old a.table (view a.pass.now) (view c.start_write.new.pass) (view c.put_root.new.pass) c.start_write.result c.requires.pass.1 a.pass.now.possible c.requires.may c.requires.moved c.start_write.ensures.1 p.did.1 p.keeps p.moves p.held
+    (view c.drop_gone.new.pass) e.only e.made e.references
 
 pub returns-clause-references : goal.returns-clause-references
 returns-clause-references c =
     let a = c.args in
     let p = c.put_root.ensures in
-    let e = c.drop_old.ensures in
-    begun_references (shape_of a.bank.now) a.o a.old a.table (view a.pass.now) (view c.start_write.new.pass) (view c.put_root.new.pass) c.start_write.result c.requires.pass.1 a.pass.now.possible c.requires.may (plain (goal.at.returns-clause-references c).After-put_root) c.start_write.ensures.1 p.did.1 p.keeps p.moves p.held
-    (view c.drop_old.new.pass) e.only e.made e.references
+    let e = c.drop_gone.ensures in
+    begun_references (shape_of a.bank.now) a.o a.old a.table (view a.pass.now) (view c.start_write.new.pass) (view c.put_root.new.pass) c.start_write.result c.requires.pass.1 a.pass.now.possible c.requires.may c.requires.moved c.start_write.ensures.1 p.did.1 p.keeps p.moves p.held
+    (view c.drop_gone.new.pass) e.only e.made e.references
 
 pub returns-clause-words : goal.returns-clause-words
 returns-clause-words c =
     let a = c.args in
     let p = c.put_root.ensures in
-    let e = c.drop_old.ensures in
+    let e = c.drop_gone.ensures in
     let k = shape_of a.bank.now in
     let v = view a.pass.now in
-    let reads = reads_here c.used_entries_follow_a_dict.ensures.first c.used_entries_follow_a_set.ensures.first c.words_are_of_one_content.ensures.head k a.o a.old a.table v c.requires.may c.requires.pass.1 a.pass.now.possible c.requires.filled in
-    begun_words k a.o a.old a.table v (view c.start_write.new.pass) (view c.put_root.new.pass) c.start_write.result c.requires.pass.1 a.pass.now.possible c.requires.may (plain (goal.at.returns-clause-words c).After-put_root) c.start_write.ensures.1 p.did.1 p.keeps p.moves p.held
-    (view c.drop_old.new.pass) e.only e.made e.references
+    begun_words k a.o a.old a.table v (view c.start_write.new.pass) (view c.put_root.new.pass) c.start_write.result c.requires.pass.1 a.pass.now.possible c.requires.may c.requires.moved c.start_write.ensures.1 p.did.1 p.keeps p.moves p.held
+    (view c.drop_gone.new.pass) e.only e.made e.references
     ∙ (p.unboxed
-    ∙ ((λ d. record { block = slice_set (held_unboxed a.o (c.start_write.ensures.1 d)).block 0 (suc (table_id a.table)); table = hand_unboxed a.o (table_id a.table) (c.start_write.ensures.1 d) })
-    ∙ (λ d. record { block = slice_set (held_unboxed a.o v).block 0 (suc (table_id a.table)); table = reads d })))
+    ∙ (λ d. record { block = slice_set (held_unboxed a.o (c.start_write.ensures.1 d)).block 0 (suc (table_id a.table)); table = hand_unboxed a.o (table_id a.table) (c.start_write.ensures.1 d) }))

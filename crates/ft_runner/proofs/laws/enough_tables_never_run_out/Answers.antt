@@ -16,11 +16,11 @@ same_script text one other read again =
     cc
 
 pub returns-clause-written : goal.returns-clause-written
-returns-clause-written c command text written script runs wrote read enough within =
+returns-clause-written c command text written script runs wrote read enough within places =
     let of = text_of_written command text written runs wrote in
-    never_out script wrote.report.history.items (script_read text script read) (subst (λ (s : ScriptParts). IsLegal stored s wrote.report.history.items) (same_script text of.script script of.read read) of.legal) enough within
+    never_out script wrote.report.history.items (script_read text script read) (subst (λ (s : ScriptParts). IsLegal stored s wrote.report.history.items) (same_script text of.script script of.read read) of.legal) enough within places
 
 pub returns-clause-made : goal.returns-clause-made
-returns-clause-made c calls text report script on clean read enough within =
+returns-clause-made c calls text report script on clean read enough within places =
     let of = (summed_up calls text report on clean).2 in
-    never_out script report.history.items (script_read (made_text calls) script read) (subst (λ (s : ScriptParts). IsLegal stored s report.history.items) (same_script (made_text calls) of.script script of.read read) of.legal) enough within
+    never_out script report.history.items (script_read (made_text calls) script read) (subst (λ (s : ScriptParts). IsLegal stored s report.history.items) (same_script (made_text calls) of.script script of.read read) of.legal) enough within places

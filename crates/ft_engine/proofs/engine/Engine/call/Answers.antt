@@ -1,68 +1,98 @@
-use Rattle.ft_engine.specs.Calling.{last_of}
-use Rattle.ft_bank.specs.Passes.{view}
-use Rattle.ft_bank_history.proofs.SoFar.{memory_errors_are_found}
-use Rattle.ft_engine.specs.Attempts.{entries_with_answer}
-use Rattle.ft_engine.specs.Callers.{thread_of}
-use Rattle.ft_engine.proofs.Retrying.{done_called, done_kept, done_same, none_between, tried_own}
-use Rattle.ft_engine.proofs.SoFar.{answers_right, call_open}
+use Rattle.ft_engine.proofs.Keeping.{no_answer_idle}
+use Rattle.ft_engine.proofs.MadeCalls.{came_from, may_lock, some_left}
 use Rattle.ft_engine.proofs.engine.Engine.call.Goals as goal
 
-pub returns-in-Ok-clause-called : goal.returns-in-Ok-clause-called
-returns-in-Ok-clause-called g c =
+pub try_at_once-step-requires-clause-may : goal.try_at_once-step-requires-clause-may
+try_at_once-step-requires-clause-may g c objects is = may_lock c.args.self.now c.args.caller.now objects c.requires.caller (c.may_at_once.ensures c.if-not-may_at_once.false).0
+
+pub try_at_once-step-requires-clause-names : goal.try_at_once-step-requires-clause-names
+try_at_once-step-requires-clause-names g c = (c.args.caller.now.cursors.items, c.requires.may.names (no_answer_idle c.args.caller.now.flight (c.may_at_once.ensures c.if-not-may_at_once.false).0))
+
+pub try_at_once-step-requires-clause-left : goal.try_at_once-step-requires-clause-left
+try_at_once-step-requires-clause-left g c = some_left c.args.self.now c.args.caller.now c.args.call.now c.requires.caller (c.may_at_once.ensures c.if-not-may_at_once.false).0 c.requires.may
+
+pub end_at_once-requires : goal.end_at_once-requires
+end_at_once-requires g c =
     let a = c.args in
-    done_called a.self.now a.call.now c.in-Ok.called a.caller.now a.caller.now c.call_at_once.new.caller (none_between a.self.now a.call.now a.caller.now c.requires.caller c.requires.may) c.in-Ok.ensures.done
+    let free = c.may_at_once.ensures c.if-not-may_at_once.false in
+    record { came = (a.caller.now, came_from a.self.now a.call.now a.caller.now c.try_at_once-step.new.pass c.try_at_once-step.result c.requires.caller c.requires.may free.0 free.1 free.2 c.try_at_once-step.ensures.looked c.try_at_once-step.ensures.tried) }
 
-pub returns-in-Err-clause-caller : goal.returns-in-Err-clause-caller
-returns-in-Err-clause-caller g c = (c.call_on.ensures c.args.caller.now c.in-Err.ensures.again).2.caller
-
-pub returns-in-Err-clause-flight : goal.returns-in-Err-clause-flight
-returns-in-Err-clause-flight g c = (c.call_on.ensures c.args.caller.now c.in-Err.ensures.again).2.flight
-
-pub returns-in-Err-clause-same : goal.returns-in-Err-clause-same
-returns-in-Err-clause-same g c =
+pub returns-clause-caller : goal.returns-clause-caller
+returns-clause-caller g c =
     let a = c.args in
-    let x = c.call_on.ensures a.caller.now c.in-Err.ensures.again in
-    done_same a.self.now a.call.now (last_of c.call_on.result) a.caller.now x.0 c.call_on.new.caller x.1 x.2
+    let free = c.may_at_once.ensures c.if-not-may_at_once.false in
+    (c.end_at_once.ensures a.caller.now
+    (came_from a.self.now a.call.now a.caller.now c.try_at_once-step.new.pass c.try_at_once-step.result c.requires.caller c.requires.may free.0 free.1 free.2 c.try_at_once-step.ensures.looked c.try_at_once-step.ensures.tried)).caller
 
-pub returns-in-Err-clause-kept : goal.returns-in-Err-clause-kept
-returns-in-Err-clause-kept g c mine kept =
+pub returns-then-not-may_at_once-clause-caller : goal.returns-then-not-may_at_once-clause-caller
+returns-then-not-may_at_once-clause-caller g c = c.call_in_turn.ensures.caller
+
+pub returns-clause-same : goal.returns-clause-same
+returns-clause-same g c =
     let a = c.args in
-    let x = c.call_on.ensures a.caller.now c.in-Err.ensures.again in
-    done_kept a.self.now a.call.now (last_of c.call_on.result) a.caller.now x.0 c.call_on.new.caller mine x.1 x.2 kept
+    let free = c.may_at_once.ensures c.if-not-may_at_once.false in
+    (c.end_at_once.ensures a.caller.now
+    (came_from a.self.now a.call.now a.caller.now c.try_at_once-step.new.pass c.try_at_once-step.result c.requires.caller c.requires.may free.0 free.1 free.2 c.try_at_once-step.ensures.looked c.try_at_once-step.ensures.tried)).same
 
-pub returns-in-Err-clause-called : goal.returns-in-Err-clause-called
-returns-in-Err-clause-called g c =
+pub returns-then-not-may_at_once-clause-same : goal.returns-then-not-may_at_once-clause-same
+returns-then-not-may_at_once-clause-same g c = c.call_in_turn.ensures.same
+
+pub returns-clause-flight : goal.returns-clause-flight
+returns-clause-flight g c =
     let a = c.args in
-    let x = c.call_on.ensures a.caller.now c.in-Err.ensures.again in
-    done_called a.self.now a.call.now c.call_on.result a.caller.now x.0 c.call_on.new.caller x.1 x.2
+    let free = c.may_at_once.ensures c.if-not-may_at_once.false in
+    (c.end_at_once.ensures a.caller.now
+    (came_from a.self.now a.call.now a.caller.now c.try_at_once-step.new.pass c.try_at_once-step.result c.requires.caller c.requires.may free.0 free.1 free.2 c.try_at_once-step.ensures.looked c.try_at_once-step.ensures.tried)).flight
 
--- ---- its own answer, and all answers are right
+pub returns-then-not-may_at_once-clause-flight : goal.returns-then-not-may_at_once-clause-flight
+returns-then-not-may_at_once-clause-flight g c = c.call_in_turn.ensures.flight
 
-pub returns-in-Ok-clause-own : goal.returns-in-Ok-clause-own
-returns-in-Ok-clause-own g c = c.in-Ok.ensures.done.own
-
-pub returns-in-Err-clause-own : goal.returns-in-Err-clause-own
-returns-in-Err-clause-own g c =
+pub returns-clause-kept : goal.returns-clause-kept
+returns-clause-kept g c =
     let a = c.args in
-    let x = c.call_on.ensures a.caller.now c.in-Err.ensures.again in
-    tried_own a.self.now a.call.now a.caller.now x.0 c.call_on.new.caller (last_of c.call_on.result) x.1 x.2
+    let free = c.may_at_once.ensures c.if-not-may_at_once.false in
+    (c.end_at_once.ensures a.caller.now
+    (came_from a.self.now a.call.now a.caller.now c.try_at_once-step.new.pass c.try_at_once-step.result c.requires.caller c.requires.may free.0 free.1 free.2 c.try_at_once-step.ensures.looked c.try_at_once-step.ensures.tried)).kept
 
-pub returns-in-Ok-clause-right : goal.returns-in-Ok-clause-right
-returns-in-Ok-clause-right g c mine kept =
+pub returns-then-not-may_at_once-clause-kept : goal.returns-then-not-may_at_once-clause-kept
+returns-then-not-may_at_once-clause-kept g c = c.call_in_turn.ensures.kept
+
+pub returns-clause-called : goal.returns-clause-called
+returns-clause-called g c =
     let a = c.args in
-    let x = c.in-Ok.ensures.done in
-    answers_right c.call_at_once.new.caller (entries_with_answer (thread_of a.caller.now) a.call.now (last_of c.in-Ok.called) mine)
-    (call_open a.call.now c.in-Ok.called c.call_at_once.new.caller.flight x.flight) (x.kept mine kept)
+    let free = c.may_at_once.ensures c.if-not-may_at_once.false in
+    (c.end_at_once.ensures a.caller.now
+    (came_from a.self.now a.call.now a.caller.now c.try_at_once-step.new.pass c.try_at_once-step.result c.requires.caller c.requires.may free.0 free.1 free.2 c.try_at_once-step.ensures.looked c.try_at_once-step.ensures.tried)).called
 
-pub returns-in-Err-clause-right : goal.returns-in-Err-clause-right
-returns-in-Err-clause-right g c mine kept =
+pub returns-then-not-may_at_once-clause-called : goal.returns-then-not-may_at_once-clause-called
+returns-then-not-may_at_once-clause-called g c = c.call_in_turn.ensures.called
+
+pub returns-clause-own : goal.returns-clause-own
+returns-clause-own g c =
     let a = c.args in
-    let x = c.call_on.ensures a.caller.now c.in-Err.ensures.again in
-    answers_right c.call_on.new.caller (entries_with_answer (thread_of a.caller.now) a.call.now (last_of c.call_on.result) mine)
-    (call_open a.call.now c.call_on.result c.call_on.new.caller.flight x.2.flight) (returns-in-Err-clause-kept g c mine kept)
+    let free = c.may_at_once.ensures c.if-not-may_at_once.false in
+    (c.end_at_once.ensures a.caller.now
+    (came_from a.self.now a.call.now a.caller.now c.try_at_once-step.new.pass c.try_at_once-step.result c.requires.caller c.requires.may free.0 free.1 free.2 c.try_at_once-step.ensures.looked c.try_at_once-step.ensures.tried)).own
 
-pub returns-in-Ok-clause-found_none : goal.returns-in-Ok-clause-found_none
-returns-in-Ok-clause-found_none g c = memory_errors_are_found (view c.call_at_once.new.caller.pass)
+pub returns-then-not-may_at_once-clause-own : goal.returns-then-not-may_at_once-clause-own
+returns-then-not-may_at_once-clause-own g c = c.call_in_turn.ensures.own
 
-pub returns-in-Err-clause-found_none : goal.returns-in-Err-clause-found_none
-returns-in-Err-clause-found_none g c = memory_errors_are_found (view c.call_on.new.caller.pass)
+pub returns-clause-right : goal.returns-clause-right
+returns-clause-right g c =
+    let a = c.args in
+    let free = c.may_at_once.ensures c.if-not-may_at_once.false in
+    (c.end_at_once.ensures a.caller.now
+    (came_from a.self.now a.call.now a.caller.now c.try_at_once-step.new.pass c.try_at_once-step.result c.requires.caller c.requires.may free.0 free.1 free.2 c.try_at_once-step.ensures.looked c.try_at_once-step.ensures.tried)).right
+
+pub returns-then-not-may_at_once-clause-right : goal.returns-then-not-may_at_once-clause-right
+returns-then-not-may_at_once-clause-right g c = c.call_in_turn.ensures.right
+
+pub returns-clause-found_none : goal.returns-clause-found_none
+returns-clause-found_none g c =
+    let a = c.args in
+    let free = c.may_at_once.ensures c.if-not-may_at_once.false in
+    (c.end_at_once.ensures a.caller.now
+    (came_from a.self.now a.call.now a.caller.now c.try_at_once-step.new.pass c.try_at_once-step.result c.requires.caller c.requires.may free.0 free.1 free.2 c.try_at_once-step.ensures.looked c.try_at_once-step.ensures.tried)).found_none
+
+pub returns-then-not-may_at_once-clause-found_none : goal.returns-then-not-may_at_once-clause-found_none
+returns-then-not-may_at_once-clause-found_none g c = c.call_in_turn.ensures.found_none

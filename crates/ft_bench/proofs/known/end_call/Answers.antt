@@ -1,0 +1,19 @@
+use Rattle.std.proofs.Common.{subst}
+use Rattle.ft_engine.specs.declared.calling.Called.{Called}
+use Rattle.ft_engine.specs.MadeCalls.{IsCallFor}
+use Rattle.ft_bench.proofs.CallerLemmas.{abandoned_ready, called_ready}
+use Rattle.ft_bench.proofs.known.end_call.Goals as goal
+
+pub returns-in-Done : goal.returns-in-Done
+returns-in-Done c =
+    let r = c.requires in
+    let x = subst (λ (a : Called). IsCallFor c.args.engine.now r.0 a r.1 c.args.worker.now.caller) c.in-Done.is r.3 in
+    called_ready c.args.engine.now r.0 _ r.1 c.args.worker.now.caller r.2 x x.flight
+
+pub abandon-requires : goal.abandon-requires
+abandon-requires c = c.requires.3.caller
+
+pub returns-in-NoMemory : goal.returns-in-NoMemory
+returns-in-NoMemory c =
+    let r = c.requires in
+    abandoned_ready c.args.engine.now r.1 c.args.worker.now.caller c.abandon.new.caller r.2 r.3.same c.abandon.ensures.caller c.abandon.ensures.idle c.abandon.ensures.same

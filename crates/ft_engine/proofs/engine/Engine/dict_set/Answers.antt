@@ -1,0 +1,32 @@
+use Rattle.std.proofs.Common.{refl}
+use Rattle.ft_model.specs.declared.call.Call.TheVariants as call
+use Rattle.ft_model.specs.declared.call.DictCall.TheVariants as dict
+use Rattle.ft_section.specs.declared.answers.Objects.TheVariants.{One}
+use Rattle.ft_engine.proofs.Keeping.{no_answer_idle}
+use Rattle.ft_engine.proofs.MadeCalls.{locked_came, may_lock, some_left}
+use Rattle.ft_engine.proofs.engine.Engine.dict_set.Goals as goal
+
+pub try_set-step-requires-clause-may : goal.try_set-step-requires-clause-may
+try_set-step-requires-clause-may g c = may_lock c.args.self.now c.args.caller.now (One c.args.d) c.requires.caller (c.is_free.ensures c.if-not-is_free.false).0
+
+pub try_set-step-requires-clause-left : goal.try_set-step-requires-clause-left
+try_set-step-requires-clause-left g c = some_left c.args.self.now c.args.caller.now (call.Dict c.args.d (dict.Set c.args.pair.0 c.args.pair.1)) c.requires.caller (c.is_free.ensures c.if-not-is_free.false).0 c.requires.may
+
+pub try_set-step-requires-clause-dict : goal.try_set-step-requires-clause-dict
+try_set-step-requires-clause-dict g c = (c.requires.may.names (no_answer_idle c.args.caller.now.flight (c.is_free.ensures c.if-not-is_free.false).0)).0.0
+
+pub try_set-step-requires-clause-key : goal.try_set-step-requires-clause-key
+try_set-step-requires-clause-key g c = (c.requires.may.names (no_answer_idle c.args.caller.now.flight (c.is_free.ensures c.if-not-is_free.false).0)).2
+
+pub end_at_once-requires : goal.end_at_once-requires
+end_at_once-requires g c =
+    let a = c.args in
+    let free = c.is_free.ensures c.if-not-is_free.false in
+    record { came = (a.caller.now, locked_came a.self.now (call.Dict a.d (dict.Set a.pair.0 a.pair.1)) a.caller.now c.try_set-step.new.pass c.try_set-step.result c.requires.caller c.requires.may free.0 free.1 (record { containers = tt; no_cursor = refl }) refl c.try_set-step.ensures) }
+
+pub returns : goal.returns
+returns g c =
+    let a = c.args in
+    let free = c.is_free.ensures c.if-not-is_free.false in
+    c.end_at_once.ensures a.caller.now
+    (locked_came a.self.now (call.Dict a.d (dict.Set a.pair.0 a.pair.1)) a.caller.now c.try_set-step.new.pass c.try_set-step.result c.requires.caller c.requires.may free.0 free.1 (record { containers = tt; no_cursor = refl }) refl c.try_set-step.ensures)

@@ -1,0 +1,29 @@
+use Rattle.std.proofs.Common.{refl}
+use Rattle.ft_model.specs.declared.call.Call.TheVariants as call
+use Rattle.ft_model.specs.declared.call.ListCall.TheVariants as list
+use Rattle.ft_section.specs.declared.answers.Objects.TheVariants.{One}
+use Rattle.ft_engine.proofs.Keeping.{no_answer_idle}
+use Rattle.ft_engine.proofs.MadeCalls.{locked_came, may_lock, some_left}
+use Rattle.ft_engine.proofs.engine.Engine.list_append.Goals as goal
+
+pub try_append-step-requires-clause-may : goal.try_append-step-requires-clause-may
+try_append-step-requires-clause-may g c = may_lock c.args.self.now c.args.caller.now (One c.args.l) c.requires.caller (c.is_free.ensures c.if-not-is_free.false).0
+
+pub try_append-step-requires-clause-left : goal.try_append-step-requires-clause-left
+try_append-step-requires-clause-left g c = some_left c.args.self.now c.args.caller.now (call.List c.args.l (list.Append c.args.value)) c.requires.caller (c.is_free.ensures c.if-not-is_free.false).0 c.requires.may
+
+pub try_append-step-requires-clause-list : goal.try_append-step-requires-clause-list
+try_append-step-requires-clause-list g c = (c.requires.may.names (no_answer_idle c.args.caller.now.flight (c.is_free.ensures c.if-not-is_free.false).0)).0.0
+
+pub end_at_once-requires : goal.end_at_once-requires
+end_at_once-requires g c =
+    let a = c.args in
+    let free = c.is_free.ensures c.if-not-is_free.false in
+    record { came = (a.caller.now, locked_came a.self.now (call.List a.l (list.Append a.value)) a.caller.now c.try_append-step.new.pass c.try_append-step.result c.requires.caller c.requires.may free.0 free.1 (record { containers = tt; no_cursor = refl }) refl c.try_append-step.ensures) }
+
+pub returns : goal.returns
+returns g c =
+    let a = c.args in
+    let free = c.is_free.ensures c.if-not-is_free.false in
+    c.end_at_once.ensures a.caller.now
+    (locked_came a.self.now (call.List a.l (list.Append a.value)) a.caller.now c.try_append-step.new.pass c.try_append-step.result c.requires.caller c.requires.may free.0 free.1 (record { containers = tt; no_cursor = refl }) refl c.try_append-step.ensures)

@@ -20,3 +20,4 @@ pub mod NamedValues
 pub mod MovedFills
 pub mod GoneEntries
 pub mod UnstoredBoxes
+pub mod FreshSteps

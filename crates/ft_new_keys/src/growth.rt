@@ -24,6 +24,7 @@ ghost use Rattle.ft_bank.specs.SameBoxes.{SameReferences, StaysSettled};
 ghost use Rattle.ft_bank.specs.declared.table.Table.{Table};
 ghost use Rattle.ft_bank.specs.TableNames.{table_id, IsTableIn};
 ghost use Rattle.ft_bank.specs.Whole.{OnlyBoxed, OnlyLoaded, Wrote};
+ghost use Rattle.ft_boxes.specs.References.{KeepsValues};
 ghost use Rattle.ft_table_calls.specs.Dropping.{AreValuePlaces};
 ghost use Rattle.ft_search.specs.Held.{IsHeldAt, KnowsTable};
 ghost use Rattle.ft_search.specs.Rounds.{kind_by};
@@ -95,6 +96,7 @@ pub fn begin_in(bank: &Bank, pass: &mut Pass, o: u32, way: Way, old: Option<Tabl
     ensures begins { BeginsIn o table (view pass.old) (view pass.new) }
     ensures writes { WritesEntries (shape_of bank.now) o table (view pass.new) }
     ensures references { SameReferences (view pass.old) (view pass.new) }
+    ensures values { KeepsValues (view pass.old) (view pass.new) }
     ensures words { held_unboxed o (view pass.new) ≡ record {
       block = slice_set (held_unboxed o (view pass.old)).block 0 (suc (table_id table));
       table = hand_unboxed o (table_id table) (view pass.old);

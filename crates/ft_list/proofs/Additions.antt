@@ -40,7 +40,7 @@ use Rattle.ft_list.proofs.LookRounds.{slots_are}
 use Rattle.ft_list.proofs.Wanted.{list_use, wanted_some}
 use Rattle.ft_list.proofs.WholeListWrites.{grows_from}
 use Rattle.ft_search.proofs.Changing.{no_keys}
-use Rattle.ft_search.proofs.Puts.{few_done, few_same}
+use Rattle.ft_search.proofs.Puts.{few_same}
 use Rattle.ft_bank.proofs.DoneBoxes.{stays_settled_same}
 
 module _ (k : Shape) (o : ℕ) (old : Option Table) (v : View) (list : KnowsList k o old v) (shape : v.shape ≡ k) (possible : ∥ IsReachable v ∥₁) (lc : ListCall) (total : ℕ) (news : List Value) (adds : Adds o lc (known_items o v) news v) (long : length news ≡ total) where
@@ -164,8 +164,8 @@ module _ (F : ℕ → Type 0) (v u : View) (same : SamePass v u) (keeps : KeepsB
     owed = owed ∙ ap suc (sym (class_is table table_in.2 ∙ of_class));
     fresh = fresh;
     table_in = table_in;
-    settled = (stays_settled_same v u keeps.boxes.made).settled may.boxes.settled;
-    few = few_same v u keeps.boxes.references (few_done k v shape may.boxes);
+    settled = (stays_settled_same v u keeps.boxes.made).settled may.settled;
+    few = few_same v u keeps.boxes.references may.few;
     left = subst (λ (n : ℕ). 0 < n) (sym keeps.held.left) may.left;
   }
 

@@ -34,3 +34,4 @@ pub mod Extending
 pub mod Undisturbed
 pub mod ListTries
 pub mod HeldWrites
+pub mod AddedHeld

@@ -1,6 +1,6 @@
 //! Calls that add items to a list: under the locks, and their tries. A list whose table has no room for them, or
 //! that has none, gets another one.
-ghost use Rattle.std.specs.Prelude.{◌≡◌, ◌+◌, ◌<◌, ◌≤◌, nat_lt, false, length, Option, Some, None, IfSome};
+ghost use Rattle.std.specs.Prelude.{◌≡◌, ◌≢◌, ℕ, ◌+◌, ◌<◌, ◌≤◌, nat_lt, false, length, Option, Some, None, IfSome};
 ghost use Rattle.ft_model.specs.declared.call.Call.TheVariants as call;
 ghost use Rattle.ft_model.specs.declared.call.ListCall.{ListCall};
 ghost use Rattle.ft_model.specs.declared.call.ListCall.TheVariants as list;
@@ -9,6 +9,7 @@ ghost use Rattle.ft_model.specs.Classes.{IsClass, most_items};
 ghost use Rattle.ft_model.specs.Lists.{clamped_in};
 ghost use Rattle.ft_model.specs.TableUses.{list_takes};
 ghost use Rattle.ft_trace.specs.Acts.{flight, used};
+ghost use Rattle.ft_trace.specs.Boxes.{place_use, use_taken};
 ghost use Rattle.ft_bank.specs.declared.table.Table.{Table};
 ghost use Rattle.ft_bank.specs.Passes.{shape_of, view, IsPassOf};
 ghost use Rattle.ft_bank.specs.PassSections.{stack_of};
@@ -18,6 +19,7 @@ ghost use Rattle.ft_table_calls.specs.Adding.{IsAdded, KeepsCursors};
 ghost use Rattle.ft_list.specs.ListItemWrites.{known_items};
 ghost use Rattle.ft_list.specs.ListWrites.{MayWriteList, Adds};
 ghost use Rattle.ft_list.specs.ListGrowth.{AddsItems};
+ghost use Rattle.ft_list.specs.Internal.Carrying.{HoldsSpare};
 ghost use Rattle.ft_list.specs.Internal.NewListTables.{KnowsList, MayAdd, list_use_of};
 ghost use Rattle.ft_list.specs.Internal.Additions.{count_in, with_added, IsAddition};
 
@@ -33,7 +35,7 @@ use ft_section::{Object, Stamp};
 use ft_table_calls::{Added, answer_no_table, answer_over, retire_old};
 
 /// The class of the table that a list takes for that many items, which has this one or none.
-fn class_wanted(old: Option<Table>, count: u64) -> Option<u32>
+pub(crate) fn class_wanted(old: Option<Table>, count: u64) -> Option<u32>
     requires table { (t : Table) → old ≡ Some t → IsClass t.class }
     ensures class { result ≡ list_takes (list_use_of old) count }
     ensures range { IfSome result (λ class. IsClass class) }
@@ -70,6 +72,8 @@ fn add_in_room(
 ) -> Added
     requires pass { IsPassOf bank.now pass.old }
     requires may { MayAdd (shape_of bank.now) l old (view pass.old) }
+    requires spare { HoldsSpare (shape_of bank.now) (view pass.old) }
+    requires untaken { (b : ℕ) → place_use b (view pass.old).log ≢ use_taken }
     requires addition { IsAddition (shape_of bank.now) count addition (view pass.old) }
     requires count { count ≡ length (known_items l (view pass.old)) }
     requires few { count + count_in addition ≤ most_items }
@@ -113,6 +117,8 @@ fn add_in_taken(
 ) -> Added
     requires pass { IsPassOf bank.now pass.old }
     requires may { MayAdd (shape_of bank.now) l old (view pass.old) }
+    requires spare { HoldsSpare (shape_of bank.now) (view pass.old) }
+    requires untaken { (b : ℕ) → place_use b (view pass.old).log ≢ use_taken }
     requires addition { IsAddition (shape_of bank.now) count addition (view pass.old) }
     requires count { count ≡ length (known_items l (view pass.old)) }
     requires few { count + count_in addition ≤ most_items }
@@ -152,6 +158,8 @@ fn add_to(
 ) -> Added
     requires pass { IsPassOf bank.now pass.old }
     requires may { MayAdd (shape_of bank.now) l old (view pass.old) }
+    requires spare { HoldsSpare (shape_of bank.now) (view pass.old) }
+    requires untaken { (b : ℕ) → place_use b (view pass.old).log ≢ use_taken }
     requires addition { IsAddition (shape_of bank.now) count addition (view pass.old) }
     requires count { count ≡ length (known_items l (view pass.old)) }
     requires call { (lc : ListCall) × (called.now ≡ call.List l lc) × Adds l lc (known_items l (view pass.old))

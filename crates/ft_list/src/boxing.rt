@@ -1,32 +1,42 @@
 //! Calls that put a value in a list which stands in a box that the caller made: the reference that the pass holds is the
-//! list's then. Where the list has the value already, or the call raises an exception, the reference is dropped.
-ghost use Rattle.std.specs.Prelude.{◌≡◌, ◌≢◌, ◌↔◌, IsTrue, ℕ, ℤ, ◌<◌, true, false, length, Some, None, slice_set};
+//! list's then. Where the list has the value already or gets another table, or the call raises an exception, the reference
+//! is dropped.
+ghost use Rattle.std.specs.List.{insert};
+ghost use Rattle.std.specs.Prelude.{◌≡◌, ◌≢◌, ◌↔◌, IsTrue, IfSome, ℕ, ℤ, ◌+◌, ◌<◌, true, false, length, Some, None, slice_set};
 ghost use Rattle.ft_model.specs.Boxings.{is_boxed};
 ghost use Rattle.ft_model.specs.Lists.{index_in};
+ghost use Rattle.ft_model.specs.TableUses.{list_takes};
 ghost use Rattle.ft_model.specs.declared.call.Call.TheVariants as call;
 ghost use Rattle.ft_model.specs.declared.call.ListCall.TheVariants as list;
 ghost use Rattle.ft_model.specs.declared.reply.Raise.TheVariants as raise;
 ghost use Rattle.ft_model.specs.declared.reply.Reply.TheVariants as reply;
 ghost use Rattle.ft_layout.specs.declared.slot.Stored.TheVariants.{Plain};
 ghost use Rattle.ft_layout.specs.Words.{FitsStored};
+ghost use Rattle.ft_trace.specs.Acts.{flight, used};
+ghost use Rattle.ft_trace.specs.Addresses.{class_of, slots};
 ghost use Rattle.ft_bank.specs.Passes.{shape_of, view, IsPassOf};
 ghost use Rattle.ft_bank.specs.PassSections.{stack_of};
+ghost use Rattle.ft_bank.specs.TableNames.{table_id};
 ghost use Rattle.ft_bank.specs.Whole.{OnlyLoaded};
 ghost use Rattle.ft_search.specs.OneEntryWrites.{HasTable};
 ghost use Rattle.ft_boxes.specs.References.{box_of};
-ghost use Rattle.ft_list.specs.HeldValues.{HoldsValue, MadeHeld, NamesBoxAt};
+ghost use Rattle.ft_list.specs.HeldValues.{AddsHeld, HoldsValue, MadeHeld, NamesBoxAt};
+ghost use Rattle.ft_list.specs.Internal.NewListTables.{list_use_of};
 ghost use Rattle.ft_list.specs.Internal.StoredBoxes.{WroteHeld};
 ghost use Rattle.ft_list.specs.ListItemWrites.{known_items, stored_item};
 ghost use Rattle.ft_list.specs.ListWrites.{Changes, MayBeginList};
 
+use crate::adding::{append_by, class_wanted};
+use crate::items::{finish, put_item};
 use crate::locked::{LENGTH, place_in, raise, table_at_root, value_fits};
 use crate::reads::read_stored;
-use crate::writes::set_item;
+use crate::writes::{begin, set_item};
 use ft_bank::{Bank, Pass, Table};
 use ft_boxes::{Held, keep, release};
 use ft_layout::Stored;
 use ft_model::{Call, ListCall, Raise, Reply, Value};
 use ft_section::{Object, Stamp};
+use ft_table_calls::Added;
 
 /// The table of a list that isn't empty.
 fn table_in(bank: &Bank, pass: &mut Pass, l: Object) -> Table
@@ -155,10 +165,105 @@ pub fn set_held(
             )
         }
         None => {
-            release(bank, pass, held);
+            release(bank, pass, held); // no item is to name the box
             let said = Reply::Raised(Raise::NoIndex);
             let stamp = raise(bank, pass, l, &called, &said);
             (said, stamp)
+        }
+    }
+}
+
+/// The table of a list of that many items, where it has room for one more.
+fn roomy_table(bank: &Bank, pass: &mut Pass, l: Object, count: u64) -> Option<Table>
+    requires pass { IsPassOf bank.now pass.old }
+    requires may { MayBeginList (shape_of bank.now) l (view pass.old) }
+    requires count { count ≡ length (known_items l (view pass.old)) }
+    ensures pass { IsPassOf bank.now pass.new }
+    ensures stack { stack_of pass.new ≡ stack_of pass.old }
+    ensures only { OnlyLoaded (view pass.old) (view pass.new) }
+    ensures room { IfSome result (λ table. HasTable (shape_of bank.now) l table (view pass.new)
+        × (list_takes (list_use_of (Some table)) (count + 1) ≡ None)) }
+{
+    match table_at_root(bank, pass, l) {
+        Some(table) => match class_wanted(Some(table), count + 1) {
+            Some(_) => None,
+            None => Some(table),
+        },
+        None => None,
+    }
+}
+
+/// Stores the value in the box after the last item of a list, of that many, whose table has room, as the write of this
+/// call. Answers the number of the write.
+fn append_box(
+    bank: &Bank,
+    pass: &mut Pass,
+    l: Object,
+    table: Table,
+    count: u64,
+    value: Value,
+    held: Held,
+    called: &Call,
+) -> u64
+    requires pass { IsPassOf bank.now pass.old }
+    requires may { MayBeginList (shape_of bank.now) l (view pass.old) }
+    requires held { HoldsValue (box_of held) value (view pass.old) }
+    requires boxed { is_boxed value ≡ true }
+    requires table { HasTable (shape_of bank.now) l table (view pass.old) }
+    requires count { count ≡ length (known_items l (view pass.old)) }
+    requires room { count < slots (class_of (table_id table)) }
+    requires call { (called.now ≡ call.List l (list.Append value)) × Changes l (list.Append value) reply.Done
+        (known_items l (view pass.old)) (insert (known_items l (view pass.old)) count value) (view pass.old) }
+    ensures pass { IsPassOf bank.now pass.new }
+    ensures stack { stack_of pass.new ≡ stack_of pass.old }
+    ensures names { NamesBoxAt l count (box_of held) (view pass.new) }
+    ensures wrote { WroteHeld (shape_of bank.now) l called.now result (view pass.old) (view pass.new) }
+{
+    let _ = value;
+    let stored = Stored::Boxed(keep(bank, pass, held));
+    begin(bank, pass, l, table);
+    let start = bank.cell_of(table);
+    put_item(bank, pass, l, table, start, count, stored);
+    let past = count + 1;
+    bank.put_block(pass, l, LENGTH, past);
+    finish(bank, pass, l, table, called, &Reply::Done, count, past)
+}
+
+/// `l.append(v)`, under the lock, where `v` stands in a box for which the pass holds the one reference. A list that gets
+/// another table takes the value without its box, as it does with its items.
+///
+/// # Errors
+///
+/// As those of `append_by`.
+pub fn append_held(bank: &Bank, pass: &mut Pass, l: Object, value: Value, held: Held) -> Added
+    requires pass { IsPassOf bank.now pass.old }
+    requires may { MayBeginList (shape_of bank.now) l (view pass.old) }
+    requires used { used (view pass.old).log ≡ false }
+    requires idle { flight (view pass.old).log ≡ 0 }
+    requires held { HoldsValue (box_of held) value (view pass.old) }
+    requires boxed { is_boxed value ≡ true }
+    ensures pass { IsPassOf bank.now pass.new }
+    ensures stack { stack_of pass.new ≡ stack_of pass.old }
+    ensures added { AddsHeld (shape_of bank.now) l (box_of held) (call.List l (list.Append value)) (view pass.old)
+        (view pass.new) result }
+{
+    let count = bank.read_block(pass, l, LENGTH);
+    match roomy_table(bank, pass, l, count) {
+        Some(table) => {
+            value_fits(value);
+            let called = Call::List {
+                container: l,
+                call: ListCall::Append { value },
+            };
+            let number = append_box(bank, pass, l, table, count, value, held, &called);
+            Added::Made(Stamp {
+                number,
+                wrote: true,
+            })
+        }
+        None => {
+            release(bank, pass, held);
+            append_by(bank, pass, l, value)
         }
     }
 }

@@ -180,7 +180,9 @@ pub(crate) fn add_items(
     called: &Call,
 ) -> u64
     requires pass { IsPassOf bank.now pass.old }
-    requires may { MayWriteList (shape_of bank.now) o (view pass.old) }
+    requires may { MayBeginList (shape_of bank.now) o (view pass.old) }
+    requires spare { HoldsSpare (shape_of bank.now) (view pass.old) }
+    requires untaken { (b : ℕ) → place_use b (view pass.old).log ≢ use_taken }
     requires table { HasTable (shape_of bank.now) o table (view pass.old) }
     requires addition { IsAddition (shape_of bank.now) count addition (view pass.old) }
     requires count { count ≡ length (known_items o (view pass.old)) }

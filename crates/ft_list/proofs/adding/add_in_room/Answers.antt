@@ -17,7 +17,7 @@ use Rattle.ft_list.specs.Internal.Additions.{count_in, with_added}
 use Rattle.ft_list.specs.Internal.NewListTables.{list_use_of}
 use Rattle.ft_list.proofs.Additions.{room_changes}
 use Rattle.ft_list.proofs.Extending.{added_long, none_alike}
-use Rattle.ft_list.proofs.GrownLists.{knows_content}
+use Rattle.ft_list.proofs.GrownLists.{add_begins, knows_content}
 use Rattle.ft_list.proofs.LookRounds.{slots_are}
 use Rattle.ft_list.proofs.EmptyWrites.{leaves_same}
 use Rattle.ft_list.proofs.Wanted.{wanted_bare, wanted_room}
@@ -66,3 +66,9 @@ write_nothing-number-requires-clause-leaves c =
     let changes = subst (λ (l : List Value). Changes a.l x.0 reply.Done values l v) same (room_changes k a.l a.old v list c.requires.pass.1 a.pass.now.possible x.0 n news x.2 long c.requires.few c.requires.room) in
     subst (λ (z : Call). Leaves a.l z reply.Done (known_state a.l v) v) (sym x.1)
     (leaves_same a.l x.0 reply.Done values v (subst (λ (z : Shape). a.l < container_count z) (sym c.requires.pass.1) list.container) list.locked (knows_content k a.l a.old v c.requires.pass.1 a.pass.now.possible list) changes)
+
+pub add_items-number-requires-clause-may : goal.add_items-number-requires-clause-may
+add_items-number-requires-clause-may c = add_begins (shape_of c.args.bank.now) c.args.l c.args.old (view c.args.pass.now) c.requires.may
+
+pub write_nothing-number-requires-clause-may : goal.write_nothing-number-requires-clause-may
+write_nothing-number-requires-clause-may c = add_begins (shape_of c.args.bank.now) c.args.l c.args.old (view c.args.pass.now) c.requires.may

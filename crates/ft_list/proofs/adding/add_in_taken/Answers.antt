@@ -47,11 +47,11 @@ pub add_in-number-requires-clause-spare : goal.add_in-number-requires-clause-spa
 add_in-number-requires-clause-spare c b =
     let k = shape_of c.args.bank.now in
     let same = held_same k (view c.args.pass.now) (view c.take.new.pass) c.requires.pass.1 (c.in-Taken.ensures.same.shape ∙ c.requires.pass.1) c.in-Taken.ensures.keeps.boxes.references b in
-    let none = c.requires.may.boxes.none b in
-    omega (arith, same, none)
+    let s = c.requires.spare b in
+    omega (arith, same, s)
 
 pub add_in-number-requires-clause-untaken : goal.add_in-number-requires-clause-untaken
-add_in-number-requires-clause-untaken c b taken = c.requires.may.boxes.stored b (sym (c.in-Taken.ensures.keeps.boxes.made.uses b) ∙ taken)
+add_in-number-requires-clause-untaken c b taken = c.requires.untaken b (sym (c.in-Taken.ensures.keeps.boxes.made.uses b) ∙ taken)
 
 pub add_in-number-requires-clause-count : goal.add_in-number-requires-clause-count
 add_in-number-requires-clause-count c =

@@ -1,4 +1,4 @@
-use Rattle.std.proofs.Common.{◌≡◌, ◌<◌, ℕ, ◌+◌, ℤ, length, refl, sym, ap, ◌∙◌, subst}
+use Rattle.std.proofs.Common.{◌≡◌, ◌<◌, ℕ, ◌+◌, ℤ, length, refl, sym, ap, ◌∙◌, subst, arith}
 use mir.Syntax.{w64}
 use mir.Val.{to_z, of_z}
 use Rattle.std.proofs.Math.Facts.{to_z-of_z}
@@ -20,7 +20,9 @@ use Rattle.ft_list.specs.ListItemWrites.{known_items}
 use Rattle.ft_list.proofs.ListCallFacts.{insert_adds}
 use Rattle.ft_list.proofs.GrownLists.{knows_content}
 use Rattle.ft_list.proofs.Additions.{adds_items}
-use Rattle.ft_search.proofs.Puts.{done_then}
+use Rattle.ft_search.proofs.Overs.{held_same}
+use Rattle.ft_search.proofs.Puts.{few_done, few_same}
+use Rattle.ft_bank.proofs.DoneBoxes.{stays_settled_same}
 use Rattle.ft_list.proofs.adding.insert_by.Goals as goal
 
 pub add_to-requires-clause-may : goal.add_to-requires-clause-may
@@ -33,7 +35,8 @@ add_to-requires-clause-may c =
       used = l.work.used ∙ c.requires.used;
       owes = l.work.owes ∙ c.requires.may.owes;
       idle = l.work.pass.flight ∙ c.requires.idle;
-      boxes = done_then (shape_of a.bank.now) (view a.pass.now) (view c.root_table-old.new.pass) c.requires.pass.1 l.work.pass.shape l.boxes.references l.boxes.made c.requires.may.boxes;
+      settled = (stays_settled_same (view a.pass.now) (view c.root_table-old.new.pass) l.boxes.made).settled c.requires.may.boxes.settled;
+      few = few_same (view a.pass.now) (view c.root_table-old.new.pass) l.boxes.references (few_done (shape_of a.bank.now) (view a.pass.now) c.requires.pass.1 c.requires.may.boxes);
       left = subst (λ (n : ℕ). 0 < n) (sym l.work.left) c.requires.may.left;
     }
 
@@ -70,3 +73,17 @@ returns-clause-cursors c number =
     let e = c.root_table-old.ensures in
     added_cursors (shape_of c.args.bank.now) _ _ _ reply.Done (view c.root_table-old.new.pass) (view c.add_to.new.pass) c.add_to.result c.add_to.ensures.added number
     ∙ (e.only.work.pass.cursors number ∙ c.count_of-count.ensures.only.work.pass.cursors number)
+
+pub add_to-requires-clause-untaken : goal.add_to-requires-clause-untaken
+add_to-requires-clause-untaken c b taken =
+    let a = c.args in
+    let l = loaded_then (view a.pass.now) (view c.count_of-count.new.pass) (view c.root_table-old.new.pass) c.count_of-count.ensures.only c.root_table-old.ensures.only in
+    c.requires.may.boxes.stored b (sym (l.boxes.made.uses b) ∙ taken)
+
+pub add_to-requires-clause-spare : goal.add_to-requires-clause-spare
+add_to-requires-clause-spare c b =
+    let a = c.args in
+    let l = loaded_then (view a.pass.now) (view c.count_of-count.new.pass) (view c.root_table-old.new.pass) c.count_of-count.ensures.only c.root_table-old.ensures.only in
+    let same = held_same (shape_of a.bank.now) (view a.pass.now) (view c.root_table-old.new.pass) c.requires.pass.1 (l.work.pass.shape ∙ c.requires.pass.1) l.boxes.references b in
+    let none = c.requires.may.boxes.none b in
+    omega (arith, same, none)

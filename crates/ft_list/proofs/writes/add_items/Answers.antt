@@ -78,8 +78,8 @@ finish-requires-clause-may c =
     let head = added_head class is_class values news first total (held_unboxed a.o y) (held_unboxed a.o u) moved held_is short long room (subst (λ (l : List ℕ). IsBlock l (Some class) (length values) 0 0) (sym e.block) b.head) in
     let list = writes_on k a.o a.table y u e.pass.1 last.work c.put_block.ensures.boxes.references last.made (root_stays _ _ _ _ (omega arith) held_is) e.list in
     let call_is = c.requires.call in
-    finishing k a.o a.table v s u b.did.0 (begins k a.o (view a.pass.now) c.requires.pass.1 c.requires.may) begun only first total call_is.0 a.called.now reply.Done values news call_is.1 call_is.2 b.content b.table list (ap (λ (z : View). z.shape) c.put_block.ensures.did.1 ∙ e.pass.1) changing head
-    (λ stored has. stores_none k a.o a.table v s u b.did.0 (begins k a.o v c.requires.pass.1 c.requires.may) begun only c.requires.may.boxes.stored a.called.now stored)
+    finishing k a.o a.table v s u b.did.0 c.requires.may begun only first total call_is.0 a.called.now reply.Done values news call_is.1 call_is.2 b.content b.table list (ap (λ (z : View). z.shape) c.put_block.ensures.did.1 ∙ e.pass.1) changing head
+    (λ stored has. stores_none k a.o a.table v s u b.did.0 c.requires.may begun only c.requires.untaken a.called.now stored)
 
 pub returns-clause-wrote : goal.returns-clause-wrote
 returns-clause-wrote c =
@@ -92,7 +92,7 @@ returns-clause-wrote c =
     let e = c.put_added.ensures in
     let last = put_by (PutBlock a.o 1 (a.count + c.added_count.result)) y u a.o tt c.put_block.ensures.did.1 c.put_block.ensures.keeps c.put_block.ensures.moves in
     let call_is = c.requires.call in
-    list_wrote k a.o a.table (view a.pass.now) s u d.0 (begins k a.o (view a.pass.now) c.requires.pass.1 c.requires.may) d.1.1 (written_then a.o s y u e.only (put_written a.o y u last)) call_is.0 a.called.now reply.Done c.finish.result (view c.finish.new.pass) call_is.1 call_is.2.write.changing c.finish.ensures.ends
+    list_wrote k a.o a.table (view a.pass.now) s u d.0 c.requires.may d.1.1 (written_then a.o s y u e.only (put_written a.o y u last)) call_is.0 a.called.now reply.Done c.finish.result (view c.finish.new.pass) call_is.1 call_is.2.write.changing c.finish.ensures.ends
     ((root_stays _ _ _ _ (omega arith) c.put_block.ensures.unboxed) ∙ (e.list.root ∙ sym c.requires.table.root))
 
 pub returns-clause-root : goal.returns-clause-root
@@ -106,7 +106,7 @@ returns-clause-root c =
     let e = c.put_added.ensures in
     let last = put_by (PutBlock a.o 1 (a.count + c.added_count.result)) y u a.o tt c.put_block.ensures.did.1 c.put_block.ensures.keeps c.put_block.ensures.moves in
     let call_is = c.requires.call in
-    root_wrote k a.o a.table (view a.pass.now) s u d.0 (begins k a.o (view a.pass.now) c.requires.pass.1 c.requires.may) d.1.1 (written_then a.o s y u e.only (put_written a.o y u last)) call_is.0 a.called.now reply.Done c.finish.result (view c.finish.new.pass) call_is.1 call_is.2.write.changing c.finish.ensures.ends
+    root_wrote k a.o a.table (view a.pass.now) s u d.0 c.requires.may d.1.1 (written_then a.o s y u e.only (put_written a.o y u last)) call_is.0 a.called.now reply.Done c.finish.result (view c.finish.new.pass) call_is.1 call_is.2.write.changing c.finish.ensures.ends
     ((root_stays _ _ _ _ (omega arith) c.put_block.ensures.unboxed) ∙ (e.list.root ∙ sym c.requires.table.root))
 
 pub returns-clause-references : goal.returns-clause-references
@@ -114,12 +114,9 @@ returns-clause-references c b =
     let begun : (n : ℕ) → references_held (view c.begin.new.pass).shape n (view c.begin.new.pass).log ≡ references_held (view c.args.pass.now).shape n (view c.args.pass.now).log = λ n. ap (λ (z : View). references_held z.shape n z.log) c.begin.ensures.did.1.1 in
     c.finish.ensures.references b ∙ (c.put_block.ensures.boxes.references b ∙ (c.put_added.ensures.references b ∙ begun b))
 
-pub begin-requires-clause-may : goal.begin-requires-clause-may
-begin-requires-clause-may c = begins (shape_of c.args.bank.now) c.args.o (view c.args.pass.now) c.requires.pass.1 c.requires.may
-
 pub put_added-requires-clause-spare : goal.put_added-requires-clause-spare
 put_added-requires-clause-spare c b =
     let k = shape_of c.args.bank.now in
     let begun = held_same k (view c.args.pass.now) (view c.begin.new.pass) c.requires.pass.1 c.begin.ensures.pass.1 (λ n. ap (λ (z : View). references_held z.shape n z.log) c.begin.ensures.did.1.1) b in
-    let none = c.requires.may.boxes.none b in
-    omega (arith, begun, none)
+    let s = c.requires.spare b in
+    omega (arith, begun, s)

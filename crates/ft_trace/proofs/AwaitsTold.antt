@@ -170,5 +170,5 @@ awaits_may_be_answered v thread index live p some_call told =
     let valid_ : Valid k now = (p.2.0, (p.2.1, live.0, refl, tt, live.1)) in
     let own : Loaded n u.log = record { newer = []; rest = v.log; is = refl; own = tt } in
     let cause : WasTold (told_in u.log) thread index n = loaded_after k now valid_ id u at [] v.log n refl thread index told in
-    let may : May k (run k now) (history now) u (Answer awaited reply.Done n) = (refl, omega (arith, same), refl, own, cause, some_call, refl) in
+    let may : May k (run k now) (history now) u (Answer awaited reply.Done n) = (refl, omega (arith, same), refl, own, cause, some_call, refl, tt) in
     (n, (did id u (Answer awaited reply.Done n) ∷ now, id, ((valid_, (at, live.0, tt, may, live.1)), set_at (run k now).views id u (view_after (Answer awaited reply.Done n) u) at)))

@@ -56,7 +56,7 @@ cause_earned k es valid id v at called (reply.Raised (raise.Memory class)) n cau
     let z = was k w.older w.valid id w.view w.at f.mid (ReadCount class 0) f.rest w.log in
     (cause.0, cause.1, cause.2, z.may tt, empty_earned k es valid id v at class n (z.may tt) f)
 cause_earned k es valid id v at called (reply.Raised raise.Over) n cause = cause
-cause_earned k es valid id v at called (reply.Raised raise.Heap) n cause = absurd cause
+cause_earned k es valid id v at called (reply.Raised raise.Heap) n cause = cause
 cause_earned k es valid id v at called reply.Kept n cause = cause.0
 cause_earned k es valid id v at (call.Await thread index) reply.Done n cause = refl
 cause_earned k es valid id v at called said n cause = cause

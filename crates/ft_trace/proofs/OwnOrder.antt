@@ -181,7 +181,7 @@ right_low : (starts : List Start) (cs : List Call) (entries : List Entry) → Al
 right_low starts cs [] all = All-nil (λ e. e.stamp ≤ length cs)
 right_low starts cs (e ∷ entries) all = All-cons (λ e. e.stamp ≤ length cs) e entries all.0.low (right_low starts cs entries all.1)
 
-right_parts : (starts : List Start) (cs : List Call) (xs ys : List Entry) → AllRight starts cs (xs ++ ys) → AllRight starts cs xs × AllRight starts cs ys
+pub right_parts : (starts : List Start) (cs : List Call) (xs ys : List Entry) → AllRight starts cs (xs ++ ys) → AllRight starts cs xs × AllRight starts cs ys
 right_parts starts cs [] ys all = (tt, all)
 right_parts starts cs (x ∷ xs) ys all = let r = right_parts starts cs xs ys all.1 in ((all.0, r.0), r.1)
 
@@ -248,7 +248,7 @@ right_lists k b cs (l ∷ lists) right all =
     (own_stays k.starts b cs l p.0 (All-head (AreInOwnOrder (IsNumber cs)) l lists all))
     (right_lists k b cs lists p.1 (All-tail (AreInOwnOrder (IsNumber cs)) l lists all))
 
-given_lists : (P : List Entry → Type 0) (w : View) → All P (all_lists w) → All P (lists_of w)
+pub given_lists : (P : List Entry → Type 0) (w : View) → All P (all_lists w) → All P (lists_of w)
 given_lists P w all =
     dite (ℕ_discrete w.number 0)
     (λ (e : w.number ≡ 0). subst (All P) (sym (here w.number 0 w.lists (all_lists w) e)) (All-tail P w.entries w.lists all))

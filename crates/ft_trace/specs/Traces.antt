@@ -1,6 +1,6 @@
 -- A trace is a list of events, newest first. It gives the words and the views, and it is valid where each event's
 -- condition held where it stands.
-use Rattle.std.specs.Prelude.{◌≡◌, ◌≢◌, ◌⊎◌, ℕ, suc, ◌+◌, ◌*◌, ◌/◌, ◌^◌, ◌<◌, ◌≤◌, Bool, true, false, List, [], ◌∷◌, ◌++◌, slice_index, slice_set}
+use Rattle.std.specs.Prelude.{◌≡◌, ◌≢◌, ◌⊎◌, ℕ, suc, ◌+◌, ◌*◌, ◌/◌, ◌^◌, ◌%◌, ◌<◌, ◌≤◌, Bool, true, false, List, [], ◌∷◌, ◌++◌, slice_index, slice_set}
 use mathlib.Core.Option.{some}
 use lib.ListN.{get_elem?}
 use Rattle.std.specs.Prelude.{Some, None}
@@ -29,7 +29,7 @@ use Rattle.ft_trace.specs.Unboxed.{unboxed_words, unboxed_picture}
 use Rattle.ft_trace.specs.Boxes.{made_state, local_count, taken_out, place_to_give, references_held, HasPutValue, HasReferences, KeepsBox, NamesStored, StoresTaken, IsDoneWithBoxes, HasMergedBoxes, state_default, state_making}
 use Rattle.ft_trace.specs.SeenBoxes.{SawBox}
 use Rattle.ft_trace.specs.FitCalls.{FitsCall}
-use Rattle.ft_trace.specs.Causes.{Loaded, HasCause}
+use Rattle.ft_trace.specs.Causes.{Loaded, HasCause, LacksPlace}
 use Rattle.ft_trace.specs.Hands.{cursor_in, MovesCursor}
 use Rattle.ft_trace.specs.BegunSections.{HasLocksOf}
 use Rattle.ft_layout.specs.Starts.{box_size, shared_word}
@@ -217,6 +217,7 @@ May k m cs v (Answer c r n) =
     × HasCause (stored_newest k.starts (first_writes n cs)) v.log c r n
     × (0 < v.left)
     × (moved_cursor c ≡ None)
+    × LacksPlace k v.number v.log r
 -- The call is an `iter` or a `next` of the cursor under this number, and a load of the counter since the last entry
 -- gave its stamp. The pass had that cursor, and the plain containers after as many writes give the reply and leave the
 -- new one. The pass has a call left.
@@ -297,13 +298,15 @@ May k m cs v (GivePlace b) = IsBoxName k b × (place_to_give b v.log ≡ 1)
 -- this is part of a join alone
 May k m cs v (TookOver tables had found told) = ⊥
 
--- there are at most 64 passes and 1,024 tables of a class, and no deque and no dict that starts with shared keys yet
+-- There are at most 64 passes, 1,024 tables of a class and 4,096 places of a heap, of which a word has the bits of 64; and
+-- no deque and no dict that starts with shared keys yet.
 pub record Fits (k : Shape) : Type 0 where
   pub some_pass : 0 < k.passes
   pub passes : k.passes ≤ 64
   pub tables : (c : ℕ) → IsClass c → tables_in k c ≤ 1024
   pub landed : AreLanded k.starts
   pub containers : container_count k ≤ 256
+  pub heap : (k.heap ≤ 4096) × (k.heap % 64 ≡ 0)
 
 -- The pass is offline and has no lock. It has no table but such as it retired, which who takes it in takes over, where
 -- their goals stand in their headers. It has committed what it began, and is in the midst of no taking or giving.

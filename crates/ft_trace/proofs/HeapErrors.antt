@@ -30,7 +30,7 @@ use Rattle.ft_trace.specs.Addresses.{IsBoxName, maker_of, place_in, place_word_o
 use Rattle.ft_trace.specs.Bits.{bit}
 use Rattle.ft_trace.specs.Boxes.{place_use, place_use_next, StoresTaken}
 use Rattle.ft_trace.specs.BoxTraces.{was_stored, place_bit}
-use Rattle.ft_trace.specs.Causes.{AreOfOneCall, GiveNoPlace, FoundNoPlace, HeapIsFull, LacksPlace}
+use Rattle.ft_trace.specs.Causes.{AreOfOneCall, GiveNoPlace, FoundNoPlace, HasCause, HeapIsFull}
 use Rattle.ft_trace.specs.ContainerStates.{first_writes}
 use Rattle.ft_trace.specs.Entries.{AllRight}
 use Rattle.ft_trace.specs.HeapErrors.{has_boxed, HeapErrorsFollowBoxings, HeapErrorsAreEarned}
@@ -49,7 +49,7 @@ use Rattle.ft_trace.proofs.OwnOrder.{given_lists, right_parts}
 use Rattle.ft_trace.proofs.PlacesInUse.{places_in_use_were_stored}
 use Rattle.ft_trace.proofs.Replying.{never_writes}
 use Rattle.ft_trace.proofs.Seats.{same_seat}
-use Rattle.ft_trace.proofs.Sizes.{set_views, one_more, one_view}
+use Rattle.ft_trace.proofs.Sizes.{sized, set_views, one_more, one_view}
 use Rattle.ft_trace.proofs.Stamps.{writes_stay, all_writes}
 use Rattle.ft_trace.proofs.StoredBoxes.{two_conds}
 use Rattle.ft_trace.proofs.SeenNames.{stored_at}
@@ -332,8 +332,8 @@ pub record Sums (k : Shape) (cs : List Call) (u : View) : Type 0 where
   pub counted : Counted k cs u
   pub follow : All (Follow k cs) (all_lists u)
 
-lacks_heap : (k : Shape) (number : ℕ) (log : List Act) (said : Reply) → said ≡ reply.Raised raise.Heap → LacksPlace k number log said → HeapIsFull k number log
-lacks_heap k number log said is lacks = subst (LacksPlace k number log) is lacks
+full_by : (stored : StoredWorld) (k : Shape) (v : View) (c : Call) (r : Reply) (n : ℕ) → r ≡ reply.Raised raise.Heap → v.shape ≡ k → HasCause stored v c r n → HeapIsFull k v.number v.log
+full_by stored k v c r n is shape cause = subst (λ (z : Shape). HeapIsFull z v.number v.log) shape (subst (λ (z : Reply). HasCause stored v c z n) is cause).2
 
 number_up : (n : ℕ) → n ≢ 0 → (q : ℕ) × (n ≡ suc q)
 number_up zero ne = absurd (ne refl)
@@ -363,7 +363,7 @@ heap_boxed k es valid id v at live full_heap counts =
 
 follow_next : (k : Shape) (es : List Event) → Valid k es → (id : ℕ) (v : View) → get_elem? (run k es).views id ≡ some v → v.number ≢ 0 → (a : Act) → May k (run k es) (history es) v a → Counted k (history es) v → Follow k (writes_of a (history es)) v.entries → Follow k (writes_of a (history es)) (view_after a v).entries
 follow_next k es valid id v at live (Commit c r f s) may counts old = (λ is. absurd (true≢false (sym may.0 ∙ (ap (is_write c) is ∙ never_writes (is_changing c)))), old)
-follow_next k es valid id v at live (Answer c r n) may counts old = (λ is. heap_boxed k es valid id v at live (lacks_heap k v.number v.log r is may.7) counts, old)
+follow_next k es valid id v at live (Answer c r n) may counts old = (λ is. heap_boxed k es valid id v at live (full_by (stored_newest k.starts (first_writes n (history es))) k v c r n is (sized k es valid id v at live) may.4) counts, old)
 follow_next k es valid id v at live (AnswerCursor c r n m had left) may counts old =
     let cs = first_writes n (history es) in
     (λ is. absurd (true≢false (sym (ap is_memory is) ∙ moved_plain (stored_newest k.starts cs).world c m may.0 had r left may.2)), old)

@@ -39,7 +39,7 @@ use Rattle.ft_trace.proofs.Held.{agrees_now}
 use Rattle.ft_trace.proofs.CursorAnswers.{adds_no_cursor}
 
 pub replies_may_be_given : RepliesMayBeGiven
-replies_may_be_given v call said live p some_call not_write no_cursor right lacks_place =
+replies_may_be_given v call said live p some_call not_write no_cursor right =
     let k = v.shape in
     let es = p.0 in
     let id = p.1 in
@@ -53,9 +53,9 @@ replies_may_be_given v call said live p some_call not_write no_cursor right lack
     let all : first_writes n (history es) ≡ history es = ap (λ (z : ℕ). first_writes z (history es)) number ∙ all_writes (history es) in
     let r = right (history es) n (agrees_now v es id p.2) in
     let replied : IsReplied call said (reply_in (stored_newest k.starts (first_writes n (history es))) call) = subst (λ (z : List Call). IsReplied call said (reply_in (stored_newest k.starts z) call)) (sym all) r.0 in
-    let cause : HasCause (stored_newest k.starts (first_writes n (history es))) u.log call said n = subst (λ (z : List Call). HasCause (stored_newest k.starts z) u.log call said n) (sym all) r.1 in
+    let cause : HasCause (stored_newest k.starts (first_writes n (history es))) u call said n = subst (λ (z : List Call). HasCause (stored_newest k.starts z) u call said n) (sym all) r.1 in
     let own : Loaded n u.log = record { newer = []; rest = v.log; is = refl; own = tt } in
-    let may : May k (run k now) (history now) u (Answer call said n) = (not_write, omega (arith, same), replied, own, cause, some_call, no_cursor, lacks_place n) in
+    let may : May k (run k now) (history now) u (Answer call said n) = (not_write, omega (arith, same), replied, own, cause, some_call, no_cursor) in
     (n, (did id u (Answer call said n) ∷ now, id, (((p.2.0, (p.2.1, live.0, refl, tt, live.1)), (at, live.0, tt, may, live.1)), set_at (run k now).views id u (view_after (Answer call said n) u) at)))
 
 pub cursors_may_be_moved : CursorsMayBeMoved
@@ -135,7 +135,6 @@ memory_errors_may_be_answered v call class newer rest live p some_call is own no
     (λ calls number agree.
     let r = right calls agree in
     (memory_replied (lacks class) refl call r.0.adds (reply_in (stored_newest v.shape.starts calls) call), (r.0, r.1, r.2, record { newer = []; mid = newer; rest = rest; is = ap (λ (l : List Act). ReadCounter number ∷ l) is; own = (tt, own); none = none })))
-    (λ number. tt)
 
 -- a load leaves it that a heap was found full
 full_on : (k : Shape) (number n : ℕ) (log : List Act) → HeapIsFull k number log → HeapIsFull k number (ReadCounter n ∷ log)
@@ -151,5 +150,4 @@ heap_errors_may_be_answered v called live p some_call full right =
     replies_may_be_given v called (reply.Raised raise.Heap) live p some_call (never_writes (is_changing called)) (boxing_plain (stored_newest v.shape.starts (history p.0)).world called boxed)
     (λ calls number agree.
     let r = right calls agree in
-    (boxes_replied (stored_newest v.shape.starts calls).world called r.0.boxes (reply_in (stored_newest v.shape.starts calls) called), r))
-    (λ number. full_on v.shape v.number number v.log full)
+    (boxes_replied (stored_newest v.shape.starts calls).world called r.0.boxes (reply_in (stored_newest v.shape.starts calls) called), (r.0, r.1, full_on v.shape v.number number v.log full)))

@@ -1,4 +1,4 @@
--- What a pass's log shows for the reply of a call that isn't a write.
+-- What a pass's view shows for the reply of a call that isn't a write.
 use Rattle.std.specs.Prelude.{◌≡◌, ◌≢◌, ℕ, suc, ◌+◌, ◌-◌, ◌/◌, ◌<◌, ◌≤◌, true, false, List, [], ◌∷◌, ◌++◌, length, Some, slice_get}
 use Rattle.ft_model.specs.declared.call.Call.{Call}
 use Rattle.ft_model.specs.declared.call.Call.TheVariants as call
@@ -14,6 +14,7 @@ use Rattle.ft_trace.specs.declared.Act.{Act}
 use Rattle.ft_trace.specs.declared.Act.TheVariants.{Commit, Answer, AnswerCursor, ReadCounter, ReadCount, ReadFreePlaces, GivePlace}
 use Rattle.ft_trace.specs.declared.Shape.{Shape}
 use Rattle.ft_trace.specs.declared.Told.{Told}
+use Rattle.ft_trace.specs.declared.View.{View}
 use Rattle.ft_trace.specs.Acts.{owes, told_in}
 use Rattle.ft_trace.specs.Boxes.{place_use, use_taken}
 use Rattle.ft_trace.specs.BegunSections.{begun, IsInnermostHeld}
@@ -62,12 +63,7 @@ pub record HeapIsFull (k : Shape) (number : ℕ) (log : List Act) : Type 0 where
   pub words : (w : ℕ) → w < k.heap / 64 → FoundNoPlace (number - 1) w log
   pub untaken : (b : ℕ) → place_use b log ≢ use_taken
 
--- a pass that replies a MemoryError of a heap found its own heap full
-abbrev pub LacksPlace : Shape → ℕ → List Act → Reply → Type 0
-LacksPlace k number log (reply.Raised raise.Heap) = HeapIsFull k number log
-LacksPlace k number log said = Unit {0}
-
--- such a MemoryError stands on a call that would put a value in a box, and that raises nothing else there
+-- a MemoryError of a heap stands on a call that would put a value in a box, and that raises nothing else there
 pub record CanLackPlace (world : List Content) (called : Call) : Type 0 where
   pub boxes : boxes world called ≡ true
   pub raises_nothing : is_raised (answer world no_hands called).reply ≡ false
@@ -88,22 +84,25 @@ pub record WasTold (told : List Told) (thread index stamp : ℕ) : Type 0 where
   pub late : of.one.seen ≤ stamp
 
 -- A MemoryError of a class stands on a call that would take a table of it, where its count was found 0; one of a
--- content past the largest table exactly where the call would leave that; and one of a heap where the call would put a
--- value in a box. An `end` says kept where the pass has had the locks of the section since its `begin`. An `await` is done
--- once the pass was told of the call that it names, and its stamp is not below what that one's pass had seen.
-abbrev pub HasCause : StoredWorld → List Act → Call → Reply → ℕ → Type 0
-HasCause stored log call (reply.Raised (raise.Memory class)) n =
+-- content past the largest table exactly where the call would leave that; and one of a heap on a call that would put a
+-- value in a box, where the pass found its own heap full. An `end` says kept where the pass has had the locks of the section
+-- since its `begin`. An `await` is done once the pass was told of the call that it names, and its stamp is not below what
+-- that one's pass had seen.
+abbrev pub HasCause : StoredWorld → View → Call → Reply → ℕ → Type 0
+HasCause stored v call (reply.Raised (raise.Memory class)) n =
     CanLackMemory stored.world call
     × (would_pass stored.world call ≡ false)
     × (takes_in stored call ≡ Some class)
-    × FoundEmpty class n log
-HasCause stored log call (reply.Raised raise.Over) n =
+    × FoundEmpty class n v.log
+HasCause stored v call (reply.Raised raise.Over) n =
     CanLackMemory stored.world call × (would_pass stored.world call ≡ true)
-HasCause stored log call (reply.Raised raise.Heap) n =
-    CanLackPlace stored.world call × (would_pass stored.world call ≡ false)
-HasCause stored log call reply.Kept n = (would_pass stored.world call ≡ false) × IsInnermostHeld (begun log)
-HasCause stored log (call.Await thread index) reply.Done n = WasTold (told_in log) thread index n
-HasCause stored log call said n = would_pass stored.world call ≡ false
+HasCause stored v call (reply.Raised raise.Heap) n =
+    CanLackPlace stored.world call
+    × (would_pass stored.world call ≡ false)
+    × HeapIsFull v.shape v.number v.log
+HasCause stored v call reply.Kept n = (would_pass stored.world call ≡ false) × IsInnermostHeld (begun v.log)
+HasCause stored v (call.Await thread index) reply.Done n = WasTold (told_in v.log) thread index n
+HasCause stored v call said n = would_pass stored.world call ≡ false
 
 -- what the stamp of the next entry is at least: one more than the number of the last entry that is a write, or the
 -- stamp of one that isn't

@@ -14,7 +14,7 @@ use Rattle.ft_trace.specs.declared.Act.TheVariants.{Answer, AnswerCursor, ReadCo
 use Rattle.ft_trace.specs.declared.View.{View}
 use Rattle.ft_trace.specs.Acts.{owes, view_after}
 use Rattle.ft_trace.specs.ContainerStates.{reply_in}
-use Rattle.ft_trace.specs.Causes.{AreOfOneCall, CanLackPlace, HasCause, HeapIsFull, LacksPlace}
+use Rattle.ft_trace.specs.Causes.{AreOfOneCall, CanLackPlace, HasCause, HeapIsFull}
 use Rattle.ft_trace.specs.Hands.{cursor_in, MovesCursor}
 use Rattle.ft_trace.specs.Holds.{AgreesWith}
 use Rattle.ft_trace.specs.Traces.{IsReachable, IsAwake}
@@ -25,15 +25,14 @@ after_answer v call said number = view_after (Answer call said number) (view_aft
 
 -- A pass with a call left may load the counter and give a reply with that stamp to a call that asks no cursor, where it
 -- is the plain containers' in each history that agrees with what the pass knows of the containers whose locks it has,
--- and has its cause there and in what the pass found of its heap.
+-- and has its cause there.
 abbrev pub RepliesMayBeGiven : Type 0
 RepliesMayBeGiven =
     (v : View) (call : Call) (said : Reply) → IsAwake v → IsReachable v → 0 < v.left → is_write call said ≡ false
     → moved_cursor call ≡ None
     → ((calls : List Call) (number : ℕ) → AgreesWith v (stored_newest v.shape.starts calls)
     → IsReplied call said (reply_in (stored_newest v.shape.starts calls) call)
-    × HasCause (stored_newest v.shape.starts calls) (ReadCounter number ∷ v.log) call said number)
-    → ((number : ℕ) → LacksPlace v.shape v.number (ReadCounter number ∷ v.log) said)
+    × HasCause (stored_newest v.shape.starts calls) (view_after (ReadCounter number) v) call said number)
     → (number : ℕ) × IsReachable (after_answer v call said number)
 
 -- what a pass knows that loaded the counter and answered an `iter` or a `next` of its cursor under a number, with that

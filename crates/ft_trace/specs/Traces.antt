@@ -29,7 +29,7 @@ use Rattle.ft_trace.specs.Unboxed.{unboxed_words, unboxed_picture}
 use Rattle.ft_trace.specs.Boxes.{made_state, local_count, taken_out, place_to_give, references_held, HasPutValue, HasReferences, KeepsBox, NamesStored, StoresTaken, IsDoneWithBoxes, HasMergedBoxes, state_default, state_making}
 use Rattle.ft_trace.specs.SeenBoxes.{SawBox}
 use Rattle.ft_trace.specs.FitCalls.{FitsCall}
-use Rattle.ft_trace.specs.Causes.{Loaded, HasCause, LacksPlace}
+use Rattle.ft_trace.specs.Causes.{Loaded, HasCause}
 use Rattle.ft_trace.specs.Hands.{cursor_in, MovesCursor}
 use Rattle.ft_trace.specs.BegunSections.{HasLocksOf}
 use Rattle.ft_layout.specs.Starts.{box_size, shared_word}
@@ -214,10 +214,9 @@ May k m cs v (Answer c r n) =
     × (n ≤ word_in k m counter)
     × IsReplied c r (reply_in (stored_newest k.starts (first_writes n cs)) c)
     × Loaded n v.log
-    × HasCause (stored_newest k.starts (first_writes n cs)) v.log c r n
+    × HasCause (stored_newest k.starts (first_writes n cs)) v c r n
     × (0 < v.left)
     × (moved_cursor c ≡ None)
-    × LacksPlace k v.number v.log r
 -- The call is an `iter` or a `next` of the cursor under this number, and a load of the counter since the last entry
 -- gave its stamp. The pass had that cursor, and the plain containers after as many writes give the reply and leave the
 -- new one. The pass has a call left.

@@ -133,7 +133,7 @@ module _ (called : Call) (said : Reply) (plain : IsPlain called said) (v u : Vie
       let had = has_before v (view_after (ReadCounter n) u) (λ p. work_knows v (view_after (ReadCounter n) u) p both.work) both.work.pass.shape (λ p mine. both.work.pass.locks p ∙ mine) in
       held_shown v u n loaded left called said plain.reads plain.cursor
       (λ stored has. plain.replied (reply_in stored called) (sym (replied stored (had stored has))))
-      (λ stored. plain.cause stored (ReadCounter n ∷ u.log) n)
+      (λ stored. plain.cause stored (view_after (ReadCounter n) u) n)
 
   pub read_made : (z : View) (given reply : Reply) (stamp : Stamp) (part : List Act) → u.log ≡ part ++ v.log → z ≡ view_after (Answer called given stamp.number) (view_after (ReadCounter stamp.number) u) → given ≡ said → reply ≡ given → stamp.wrote ≡ false → v.learnt ≤ shown v.log → ∥ IsReachable z ∥₁ → MadeAs called reply stamp v z
   read_made z given reply stamp part own did is same wrote settled possible =

@@ -15,12 +15,11 @@ use Rattle.ft_section.specs.declared.answers.Stamp.{Stamp}
 use Rattle.ft_section.specs.declared.answers.Objects.{Objects}
 use Rattle.ft_section.specs.declared.answers.Objects.TheVariants.{One, Two}
 use Rattle.ft_section.specs.LockTakings.{lower_of, upper_of}
-use Rattle.ft_trace.specs.declared.Act.{Act}
 use Rattle.ft_trace.specs.declared.Act.TheVariants.{ReadCounter, Answer}
 use Rattle.ft_trace.specs.declared.View.{View}
 use Rattle.ft_trace.specs.Acts.{view_after}
 use Rattle.ft_trace.specs.Causes.{HasCause}
-use Rattle.std.specs.Prelude.{List, ◌∷◌, length}
+use Rattle.std.specs.Prelude.{length}
 use Rattle.ft_trace.specs.Entries.{IsNumber}
 use Rattle.ft_trace.specs.OwnOrder.{HasWritesOn}
 use Rattle.ft_trace.specs.BegunSections.{Begun}

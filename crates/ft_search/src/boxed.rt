@@ -173,6 +173,7 @@ pub fn put_over(
     ensures references { (b : ℕ) →
         references_held (shape_of bank.now) b (view pass.new).log + names_box b kind payload ≡
         references_held (shape_of bank.now) b (view pass.old).log }
+    ensures values { KeepsValues (view pass.old) (view pass.new) }
 {
     let old = bank.read_word(pass, table, start, word);
     if old == kind && kind != BOX_KIND {
@@ -246,6 +247,7 @@ pub fn put_unboxed(bank: &Bank, pass: &mut Pass, o: u32, table: Table, start: u6
     ensures raw { slice_index (held_words o (view pass.new)).table word ≢ box_kind }
     ensures words { held_unboxed o (view pass.new) ≡ held_unboxed o (view pass.old) }
     ensures references { SameReferences (view pass.old) (view pass.new) }
+    ensures values { KeepsValues (view pass.old) (view pass.new) }
 {
     let old = bank.read_word(pass, table, start, word);
     if old != BOX_KIND {

@@ -1,6 +1,6 @@
 -- What a call comes to that adds a value in a box: the pass is done with boxes then, whether the box is the list's or its
 -- reference was dropped.
-use Rattle.std.proofs.Common.{◌≡◌, ◌≢◌, ℕ, zero, suc, ◌+◌, ◌<◌, Bool, true, false, true≢false, eqb, cond, List, length, Option, Some, None, refl, sym, ap, ◌∙◌, subst, inl, inr, arith}
+use Rattle.std.proofs.Common.{◌≡◌, ◌≢◌, ℕ, zero, suc, ◌+◌, ◌<◌, Bool, true, false, true≢false, eqb, cond, List, length, Option, Some, None, refl, sym, ap, ◌∙◌, subst, arith}
 use Rattle.std.specs.Prelude.{nat_lt}
 use Rattle.ft_model.specs.declared.call.Call.{Call}
 use Rattle.ft_model.specs.declared.call.ListCall.{ListCall}
@@ -12,12 +12,11 @@ use Rattle.ft_model.specs.TableUses.{StoredWorld, list_takes}
 use Rattle.ft_model.specs.Worlds.{list_of}
 use Rattle.ft_layout.specs.declared.slot.Ref.{Ref}
 use Rattle.ft_layout.specs.declared.slot.Stored.{Stored}
-use Rattle.ft_layout.specs.declared.slot.Stored.TheVariants.{Boxed, Plain}
-use Rattle.ft_layout.specs.Words.{IsStored}
+use Rattle.ft_layout.specs.declared.slot.Stored.TheVariants.{Boxed}
 use Rattle.ft_trace.specs.declared.Shape.{Shape}
 use Rattle.ft_trace.specs.declared.View.{View}
-use Rattle.ft_trace.specs.Acts.{has_lock, is_writing}
-use Rattle.ft_trace.specs.Boxes.{names_box, place_use, references_held, use_taken, IsDoneWithBoxes, IsSettled}
+use Rattle.ft_trace.specs.Acts.{is_writing}
+use Rattle.ft_trace.specs.Boxes.{place_use, references_held, use_taken, IsSettled}
 use Rattle.ft_trace.specs.ContainerStates.{ContainerState, changes}
 use Rattle.ft_trace.specs.Holds.{held_words, known_state}
 use Rattle.ft_trace.specs.Pictures.{root_in}
@@ -31,10 +30,9 @@ use Rattle.ft_bank.specs.WriteSteps.{MayHave}
 use Rattle.ft_bank.proofs.BoxedSteps.{made_then}
 use Rattle.ft_bank.proofs.DoneBoxes.{settled_then, stays_settled_same}
 use Rattle.ft_bank.proofs.KnownAfterWrites.{loaded_then, work_knows}
-use Rattle.ft_boxes.specs.References.{HoldsBox, HoldsOneLess}
+use Rattle.ft_boxes.specs.References.{HoldsBox}
 use Rattle.ft_search.proofs.Changing.{no_keys}
 use Rattle.ft_search.proofs.Overs.{boxed_names, held_same, other_way}
-use Rattle.ft_search.proofs.Owning.{held_is_box}
 use Rattle.ft_table_calls.specs.declared.adding.Added.{Added}
 use Rattle.ft_table_calls.specs.declared.adding.Added.TheVariants as added
 use Rattle.ft_table_calls.specs.Adding.{IsAdded, KeepsCursors, Retires}
@@ -46,7 +44,7 @@ use Rattle.ft_list.specs.ListWrites.{Adds}
 use Rattle.ft_list.specs.Internal.Additions.{IsMade}
 use Rattle.ft_list.specs.Internal.NewListTables.{KnowsList, list_use_of}
 use Rattle.ft_list.specs.Internal.StoredBoxes.{Drops, DropsUnmade}
-use Rattle.ft_list.proofs.AddedStored.{is_made, retired_uses}
+use Rattle.ft_list.proofs.AddedStored.{is_made}
 use Rattle.ft_list.proofs.GrownLists.{knows_content}
 use Rattle.ft_list.proofs.HeldWrites.{done_alone, holds_box}
 use Rattle.ft_list.proofs.Wanted.{list_use}

@@ -1,24 +1,20 @@
-use Rattle.std.proofs.Common.{◌≡◌, ℕ, ◌+◌, ◌^◌, ◌<◌, ◌≤◌, true, eqb, cond, List, length, Option, refl, sym, ap, ◌∙◌, subst, arith}
+use Rattle.std.proofs.Common.{◌≡◌, ℕ, ◌+◌, ◌<◌, List, length, refl, sym, ap, ◌∙◌, subst, arith}
 use Rattle.std.specs.List.{insert}
 use Rattle.ft_model.specs.declared.data.Value.{Value}
 use Rattle.ft_layout.specs.declared.slot.Stored.TheVariants.{Boxed}
 use Rattle.ft_trace.specs.declared.Shape.{Shape}
 use Rattle.ft_trace.specs.Boxes.{references_held}
-use Rattle.ft_trace.specs.Holds.{held_words}
-use Rattle.ft_trace.specs.Pictures.{ContainerWords, root_in}
+use Rattle.ft_trace.specs.Pictures.{root_in}
 use Rattle.ft_bank.specs.Passes.{shape_of, view}
 use Rattle.ft_bank.specs.BoxSteps.{box_id}
-use Rattle.ft_bank.proofs.DoneBoxes.{stays_settled_same}
 use Rattle.ft_bank.proofs.KnownAfterWrites.{loaded_held}
 use Rattle.ft_search.proofs.Overs.{boxed_names, other_way}
-use Rattle.ft_search.proofs.Puts.{few_same}
 use Rattle.ft_trace.proofs.ReferencesOfPuts.{names_low}
 use Rattle.ft_table_calls.specs.declared.adding.Added.{Added}
 use Rattle.ft_list.specs.HeldValues.{AddsHeld, HasWordsFrom, HoldsValue}
 use Rattle.ft_list.specs.ListItemWrites.{known_items}
 use Rattle.ft_list.specs.ListWrites.{Adds, MayBeginList}
 use Rattle.ft_list.specs.Internal.NewListTables.{KnowsList}
-use Rattle.ft_list.specs.Internal.StoredBoxes.{DropsUnmade}
 use Rattle.ft_list.proofs.AddedHeld.{adds_on, adds_stored, held_added, unmade_holds, unmade_is}
 use Rattle.ft_list.proofs.HeldWrites.{begins_on, box_own, box_reads, box_stores, holds_loaded, items_on, loaded_reads}
 use Rattle.ft_list.proofs.boxing.add_box.Goals as goal

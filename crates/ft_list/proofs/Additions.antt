@@ -34,6 +34,7 @@ use Rattle.ft_list.specs.Internal.NewListTables.{KnowsList, MayAdd, MayGrowList,
 use Rattle.ft_list.proofs.ListCallFacts.{adds_changes, adds_grows, lacks_table, passes_most}
 use Rattle.ft_list.specs.declared.addition.Addition.{Addition}
 use Rattle.ft_list.specs.Internal.Additions.{with_added, KnowsItems, IsAddition}
+use Rattle.ft_list.proofs.AddedStored.{keeps_boxes}
 use Rattle.ft_list.proofs.Extending.{addition_on, news_on}
 use Rattle.ft_list.proofs.GrownLists.{knows_content, knows_on}
 use Rattle.ft_list.proofs.LookRounds.{slots_are}
@@ -145,8 +146,8 @@ module _ (F : ℕ → Type 0) (v u : View) (same : SamePass v u) (keeps : KeepsB
       let w = keeps.held.words o (subst (λ (z : Shape). o < container_count z) (sym shape) list.container) list.locked in
       knows_on k o old v u w.2 w.1 (same.locks o) (same.writes o) list
 
-  pub tried_addition : (k : Shape) (count : ℕ) (addition : Addition) → v.shape ≡ k → IsAddition k count addition v → IsAddition k count addition u
-  tried_addition k count addition shape is = addition_on k count addition v u
+  pub tried_addition : (k : Shape) (count : ℕ) (addition : Addition) → v.shape ≡ k → ∥ IsReachable v ∥₁ → IsAddition k count addition v → IsAddition k count addition u
+  tried_addition k count addition shape possible is = addition_on k count addition v u (keeps_boxes v u possible keeps.boxes)
       (λ p list. let w = keeps.held.words p (subst (λ (z : Shape). p < container_count z) (sym shape) list.container) list.locked in (w.2, w.1, same.locks p, same.writes p)) is
 
   pub tried_news : (k : Shape) (count : ℕ) (addition : Addition) → v.shape ≡ k → IsAddition k count addition v → (values : List Value) → with_added addition u values ≡ with_added addition v values

@@ -18,7 +18,6 @@ use Rattle.ft_model.specs.Calls.{is_changing_list, cursor_of_list}
 use Rattle.ft_model.specs.Lists.{index_in, index_of}
 use Rattle.ft_model.specs.TableUses.{StoredWorld}
 use Rattle.ft_model.specs.Worlds.{no_hands}
-use Rattle.ft_trace.specs.declared.Act.{Act}
 use Rattle.ft_trace.specs.declared.Act.TheVariants.{ReadCounter, Answer}
 use Rattle.ft_trace.specs.declared.View.{View}
 use Rattle.ft_trace.specs.Acts.{has_lock, view_after, shown}

@@ -9,19 +9,19 @@ ghost use Rattle.ft_model.specs.Classes.{IsClass, most_items};
 ghost use Rattle.ft_model.specs.Lists.{clamped_in};
 ghost use Rattle.ft_model.specs.TableUses.{list_takes};
 ghost use Rattle.ft_trace.specs.Acts.{flight, used};
-ghost use Rattle.ft_trace.specs.Boxes.{place_use, use_taken};
 ghost use Rattle.ft_bank.specs.declared.table.Table.{Table};
 ghost use Rattle.ft_bank.specs.Passes.{shape_of, view, IsPassOf};
 ghost use Rattle.ft_bank.specs.PassSections.{stack_of};
 ghost use Rattle.ft_bank.specs.Whole.{OnlyLoaded};
 ghost use Rattle.ft_section.specs.declared.answers.Objects.TheVariants.{One};
-ghost use Rattle.ft_table_calls.specs.Adding.{IsAdded, KeepsCursors};
+ghost use Rattle.ft_table_calls.specs.Adding.{KeepsCursors};
 ghost use Rattle.ft_list.specs.ListItemWrites.{known_items};
 ghost use Rattle.ft_list.specs.ListWrites.{MayWriteList, Adds};
 ghost use Rattle.ft_list.specs.ListGrowth.{AddsItems};
 ghost use Rattle.ft_list.specs.Internal.Carrying.{HoldsSpare};
 ghost use Rattle.ft_list.specs.Internal.NewListTables.{KnowsList, MayAdd, list_use_of};
-ghost use Rattle.ft_list.specs.Internal.Additions.{count_in, with_added, IsAddition};
+ghost use Rattle.ft_list.specs.HeldValues.{IsAddedStoring};
+ghost use Rattle.ft_list.specs.Internal.Additions.{count_in, stored_in, with_added, HasNamed, IsAddition, IsMade, StoresAddition};
 
 use crate::addition::{Addition, added_count};
 use crate::bare::write_nothing;
@@ -29,6 +29,7 @@ use crate::growth::add_in;
 use crate::locked::{count_of, table_at_root, value_fits};
 use crate::writes::add_items;
 use ft_bank::{Bank, Pass, Table, Took};
+use ft_layout::Stored;
 use ft_model::{Call, KeptTable, ListCall, MOST_ITEMS, Reply, Value, taken_by_list};
 use ft_qsbr::take;
 use ft_section::{Object, Stamp};
@@ -73,8 +74,8 @@ fn add_in_room(
     requires pass { IsPassOf bank.now pass.old }
     requires may { MayAdd (shape_of bank.now) l old (view pass.old) }
     requires spare { HoldsSpare (shape_of bank.now) (view pass.old) }
-    requires untaken { (b : ℕ) → place_use b (view pass.old).log ≢ use_taken }
     requires addition { IsAddition (shape_of bank.now) count addition (view pass.old) }
+    requires stores { StoresAddition addition called.now (view pass.old) }
     requires count { count ≡ length (known_items l (view pass.old)) }
     requires few { count + count_in addition ≤ most_items }
     requires call { (lc : ListCall) × (called.now ≡ call.List l lc) × Adds l lc (known_items l (view pass.old))
@@ -82,7 +83,9 @@ fn add_in_room(
     requires room { list_takes (list_use_of old) (count + count_in addition) ≡ None }
     ensures pass { IsPassOf bank.now pass.new }
     ensures stack { stack_of pass.new ≡ stack_of pass.old }
-    ensures added { IsAdded (shape_of bank.now) None false called.now reply.Done (view pass.old) (view pass.new) result }
+    ensures added { IsAddedStoring (shape_of bank.now) None false (stored_in addition) called.now (view pass.old)
+        (view pass.new) result }
+    ensures named { IsMade result → HasNamed l addition (view pass.old) (view pass.new) }
 {
     match old {
         Some(table) => {
@@ -118,8 +121,8 @@ fn add_in_taken(
     requires pass { IsPassOf bank.now pass.old }
     requires may { MayAdd (shape_of bank.now) l old (view pass.old) }
     requires spare { HoldsSpare (shape_of bank.now) (view pass.old) }
-    requires untaken { (b : ℕ) → place_use b (view pass.old).log ≢ use_taken }
     requires addition { IsAddition (shape_of bank.now) count addition (view pass.old) }
+    requires stores { StoresAddition addition called.now (view pass.old) }
     requires count { count ≡ length (known_items l (view pass.old)) }
     requires few { count + count_in addition ≤ most_items }
     requires call { (lc : ListCall) × (called.now ≡ call.List l lc) × Adds l lc (known_items l (view pass.old))
@@ -128,8 +131,9 @@ fn add_in_taken(
     requires takes { list_takes (list_use_of old) (count + count_in addition) ≡ Some class }
     ensures pass { IsPassOf bank.now pass.new }
     ensures stack { stack_of pass.new ≡ stack_of pass.old }
-    ensures added { IsAdded (shape_of bank.now) (Some class) false called.now reply.Done (view pass.old) (view pass.new)
-        result }
+    ensures added { IsAddedStoring (shape_of bank.now) (Some class) false (stored_in addition) called.now (view pass.old)
+        (view pass.new) result }
+    ensures named { IsMade result → HasNamed l addition (view pass.old) (view pass.new) }
 {
     match take(bank, pass, class) {
         Took::Taken(table) => {
@@ -147,7 +151,7 @@ fn add_in_taken(
 
 /// Adds to a list of that many items, as the write of this call.
 #[inline(always)]
-fn add_to(
+pub(crate) fn add_to(
     bank: &Bank,
     pass: &mut Pass,
     l: Object,
@@ -159,15 +163,16 @@ fn add_to(
     requires pass { IsPassOf bank.now pass.old }
     requires may { MayAdd (shape_of bank.now) l old (view pass.old) }
     requires spare { HoldsSpare (shape_of bank.now) (view pass.old) }
-    requires untaken { (b : ℕ) → place_use b (view pass.old).log ≢ use_taken }
     requires addition { IsAddition (shape_of bank.now) count addition (view pass.old) }
+    requires stores { StoresAddition addition called.now (view pass.old) }
     requires count { count ≡ length (known_items l (view pass.old)) }
     requires call { (lc : ListCall) × (called.now ≡ call.List l lc) × Adds l lc (known_items l (view pass.old))
         (with_added addition (view pass.old) (known_items l (view pass.old))) (view pass.old) }
     ensures pass { IsPassOf bank.now pass.new }
     ensures stack { stack_of pass.new ≡ stack_of pass.old }
-    ensures added { IsAdded (shape_of bank.now) (list_takes (list_use_of old) (count + count_in addition))
-        (nat_lt most_items (count + count_in addition)) called.now reply.Done (view pass.old) (view pass.new) result }
+    ensures added { IsAddedStoring (shape_of bank.now) (list_takes (list_use_of old) (count + count_in addition))
+        (nat_lt most_items (count + count_in addition)) (stored_in addition) called.now (view pass.old) (view pass.new) result }
+    ensures named { IsMade result → HasNamed l addition (view pass.old) (view pass.new) }
 {
     let total = count + added_count(addition);
     if total > MOST_ITEMS as u64 {
@@ -207,13 +212,14 @@ pub fn append_by(bank: &Bank, pass: &mut Pass, l: Object, value: Value) -> Added
     let addition = Addition::One {
         place: count,
         value,
+        stored: Stored::Plain(value),
     };
     add_to(bank, pass, l, old, addition, count, &called)
 }
 
 /// The place before which an index inserts among that many items: a negative one counts from the end, and one
 /// that is then outside is clamped (Python manual, Sequence Types, note 4).
-fn clamped(count: u64, index: i64) -> u64
+pub(crate) fn clamped(count: u64, index: i64) -> u64
     ensures place { result ≡ clamped_in count index }
     ensures within { result ≤ count }
 {
@@ -247,7 +253,11 @@ pub fn insert_by(bank: &Bank, pass: &mut Pass, l: Object, index: i64, value: Val
     let count = count_of(bank, pass, l);
     let old = root_table(bank, pass, l);
     let place = clamped(count, index);
-    let addition = Addition::One { place, value };
+    let addition = Addition::One {
+        place,
+        value,
+        stored: Stored::Plain(value),
+    };
     add_to(bank, pass, l, old, addition, count, &called)
 }
 

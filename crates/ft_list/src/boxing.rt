@@ -1,39 +1,38 @@
 //! Calls that put a value in a list which stands in a box that the caller made: the reference that the pass holds is the
-//! list's then. Where the list has the value already or gets another table, or the call raises an exception, the reference
-//! is dropped.
+//! list's then. Where the list has the value already, or the call isn't made, the reference is dropped.
 ghost use Rattle.std.specs.List.{insert};
-ghost use Rattle.std.specs.Prelude.{◌≡◌, ◌≢◌, ◌↔◌, IsTrue, IfSome, ℕ, ℤ, ◌+◌, ◌<◌, true, false, length, Some, None, slice_set};
-ghost use Rattle.ft_model.specs.Boxings.{is_boxed};
-ghost use Rattle.ft_model.specs.Lists.{index_in};
-ghost use Rattle.ft_model.specs.TableUses.{list_takes};
+ghost use Rattle.std.specs.Prelude.{◌≡◌, ◌≢◌, ◌↔◌, IsTrue, ℕ, ℤ, ◌<◌, ◌≤◌, true, false, length, Some, None, slice_set};
+ghost use Rattle.ft_model.specs.Boxings.{boxes, is_boxed};
+ghost use Rattle.ft_model.specs.Lists.{clamped_in, index_in};
+ghost use Rattle.ft_model.specs.TableUses.{StoredWorld};
 ghost use Rattle.ft_model.specs.declared.call.Call.TheVariants as call;
+ghost use Rattle.ft_model.specs.declared.call.ListCall.{ListCall};
 ghost use Rattle.ft_model.specs.declared.call.ListCall.TheVariants as list;
 ghost use Rattle.ft_model.specs.declared.reply.Raise.TheVariants as raise;
 ghost use Rattle.ft_model.specs.declared.reply.Reply.TheVariants as reply;
 ghost use Rattle.ft_layout.specs.declared.slot.Stored.TheVariants.{Plain};
 ghost use Rattle.ft_layout.specs.Words.{FitsStored};
 ghost use Rattle.ft_trace.specs.Acts.{flight, used};
-ghost use Rattle.ft_trace.specs.Addresses.{class_of, slots};
+ghost use Rattle.ft_trace.specs.Boxes.{IsSettled};
 ghost use Rattle.ft_bank.specs.Passes.{shape_of, view, IsPassOf};
 ghost use Rattle.ft_bank.specs.PassSections.{stack_of};
-ghost use Rattle.ft_bank.specs.TableNames.{table_id};
 ghost use Rattle.ft_bank.specs.Whole.{OnlyLoaded};
 ghost use Rattle.ft_search.specs.OneEntryWrites.{HasTable};
-ghost use Rattle.ft_boxes.specs.References.{box_of};
+ghost use Rattle.ft_boxes.specs.References.{HoldsBox, box_of};
 ghost use Rattle.ft_list.specs.HeldValues.{AddsHeld, HoldsValue, MadeHeld, NamesBoxAt};
-ghost use Rattle.ft_list.specs.Internal.NewListTables.{list_use_of};
-ghost use Rattle.ft_list.specs.Internal.StoredBoxes.{WroteHeld};
+ghost use Rattle.ft_list.specs.Internal.Additions.{IsMade};
+ghost use Rattle.ft_list.specs.Internal.StoredBoxes.{DropsUnmade, WroteHeld};
 ghost use Rattle.ft_list.specs.ListItemWrites.{known_items, stored_item};
-ghost use Rattle.ft_list.specs.ListWrites.{Changes, MayBeginList};
+ghost use Rattle.ft_list.specs.ListWrites.{Adds, Changes, MayBeginList};
 
-use crate::adding::{append_by, class_wanted};
-use crate::items::{finish, put_item};
+use crate::adding::{add_to, clamped};
+use crate::addition::Addition;
 use crate::locked::{LENGTH, place_in, raise, table_at_root, value_fits};
 use crate::reads::read_stored;
-use crate::writes::{begin, set_item};
+use crate::writes::set_item;
 use ft_bank::{Bank, Pass, Table};
-use ft_boxes::{Held, keep, release};
-use ft_layout::Stored;
+use ft_boxes::{Held, keep, release, taken};
+use ft_layout::{Ref, Stored};
 use ft_model::{Call, ListCall, Raise, Reply, Value};
 use ft_section::{Object, Stamp};
 use ft_table_calls::Added;
@@ -173,64 +172,73 @@ pub fn set_held(
     }
 }
 
-/// The table of a list of that many items, where it has room for one more.
-fn roomy_table(bank: &Bank, pass: &mut Pass, l: Object, count: u64) -> Option<Table>
-    requires pass { IsPassOf bank.now pass.old }
-    requires may { MayBeginList (shape_of bank.now) l (view pass.old) }
-    requires count { count ≡ length (known_items l (view pass.old)) }
-    ensures pass { IsPassOf bank.now pass.new }
-    ensures stack { stack_of pass.new ≡ stack_of pass.old }
-    ensures only { OnlyLoaded (view pass.old) (view pass.new) }
-    ensures room { IfSome result (λ table. HasTable (shape_of bank.now) l table (view pass.new)
-        × (list_takes (list_use_of (Some table)) (count + 1) ≡ None)) }
-{
-    match table_at_root(bank, pass, l) {
-        Some(table) => match class_wanted(Some(table), count + 1) {
-            Some(_) => None,
-            None => Some(table),
-        },
-        None => None,
-    }
+/// A value in a box that is to be an item of a list.
+#[derive(Clone, Copy)]
+struct BoxedItem {
+    /// The item before which it is added.
+    place: u64,
+    /// The value.
+    value: Value,
+    /// The box in which it stands.
+    at: Ref,
 }
 
-/// Stores the value in the box after the last item of a list, of that many, whose table has room, as the write of this
-/// call. Answers the number of the write.
-fn append_box(
+/// Drops the reference for a box that a call was to add to a list, where the call wasn't made.
+fn drop_unmade(bank: &Bank, pass: &mut Pass, at: Ref, added: Added) -> Added
+    requires pass { IsPassOf bank.now pass.old }
+    requires held { ¬ IsMade added → HoldsBox at (view pass.old) × IsSettled (view pass.old).log }
+    ensures pass { IsPassOf bank.now pass.new }
+    ensures stack { stack_of pass.new ≡ stack_of pass.old }
+    ensures same { result ≡ added }
+    ensures drops { DropsUnmade at (view pass.old) (view pass.new) added }
+{
+    match added {
+        Added::Made(_) => {}
+        Added::NoTable(_, _) | Added::Over(_) | Added::Moved(_, _) => {
+            let held = taken(bank, pass, at);
+            release(bank, pass, held);
+        }
+    }
+    added
+}
+
+/// Adds a value in a box, for which the pass holds the one reference, to a list of that many items, as the write of this
+/// call. Where the call isn't made the reference is dropped.
+fn add_box(
     bank: &Bank,
     pass: &mut Pass,
     l: Object,
-    table: Table,
     count: u64,
-    value: Value,
-    held: Held,
+    item: BoxedItem,
     called: &Call,
-) -> u64
+) -> Added
     requires pass { IsPassOf bank.now pass.old }
     requires may { MayBeginList (shape_of bank.now) l (view pass.old) }
-    requires held { HoldsValue (box_of held) value (view pass.old) }
-    requires boxed { is_boxed value ≡ true }
-    requires table { HasTable (shape_of bank.now) l table (view pass.old) }
-    requires count { count ≡ length (known_items l (view pass.old)) }
-    requires room { count < slots (class_of (table_id table)) }
-    requires call { (called.now ≡ call.List l (list.Append value)) × Changes l (list.Append value) reply.Done
-        (known_items l (view pass.old)) (insert (known_items l (view pass.old)) count value) (view pass.old) }
+    requires used { used (view pass.old).log ≡ false }
+    requires idle { flight (view pass.old).log ≡ 0 }
+    requires held { HoldsValue item.at item.value (view pass.old) }
+    requires boxed { is_boxed item.value ≡ true }
+    requires count { (count ≡ length (known_items l (view pass.old))) × (item.place ≤ count) }
+    requires call { (lc : ListCall) × (called.now ≡ call.List l lc) × Adds l lc (known_items l (view pass.old))
+        (insert (known_items l (view pass.old)) item.place item.value) (view pass.old) }
+    requires boxing { (world : StoredWorld) → boxes world.world called.now ≡ is_boxed item.value }
     ensures pass { IsPassOf bank.now pass.new }
     ensures stack { stack_of pass.new ≡ stack_of pass.old }
-    ensures names { NamesBoxAt l count (box_of held) (view pass.new) }
-    ensures wrote { WroteHeld (shape_of bank.now) l called.now result (view pass.old) (view pass.new) }
+    ensures added { AddsHeld (shape_of bank.now) l item.place item.value item.at called.now (view pass.old) (view pass.new)
+        result }
 {
-    let _ = value;
-    let stored = Stored::Boxed(keep(bank, pass, held));
-    begin(bank, pass, l, table);
-    let start = bank.cell_of(table);
-    put_item(bank, pass, l, table, start, count, stored);
-    let past = count + 1;
-    bank.put_block(pass, l, LENGTH, past);
-    finish(bank, pass, l, table, called, &Reply::Done, count, past)
+    let old = table_at_root(bank, pass, l);
+    let addition = Addition::One {
+        place: item.place,
+        value: item.value,
+        stored: Stored::Boxed(item.at),
+    };
+    let added = add_to(bank, pass, l, old, addition, count, called);
+    drop_unmade(bank, pass, item.at, added)
 }
 
-/// `l.append(v)`, under the lock, where `v` stands in a box for which the pass holds the one reference. A list that gets
-/// another table takes the value without its box, as it does with its items.
+/// `l.append(v)`, under the lock, where `v` stands in a box for which the pass holds the one reference. The item names that
+/// box then. Where the call isn't made the reference is dropped: who makes it again makes a box again.
 ///
 /// # Errors
 ///
@@ -244,26 +252,59 @@ pub fn append_held(bank: &Bank, pass: &mut Pass, l: Object, value: Value, held: 
     requires boxed { is_boxed value ≡ true }
     ensures pass { IsPassOf bank.now pass.new }
     ensures stack { stack_of pass.new ≡ stack_of pass.old }
-    ensures added { AddsHeld (shape_of bank.now) l (box_of held) (call.List l (list.Append value)) (view pass.old)
-        (view pass.new) result }
+    ensures added { AddsHeld (shape_of bank.now) l (length (known_items l (view pass.old))) value (box_of held)
+        (call.List l (list.Append value)) (view pass.old) (view pass.new) result }
 {
+    value_fits(value);
+    let called = Call::List {
+        container: l,
+        call: ListCall::Append { value },
+    };
     let count = bank.read_block(pass, l, LENGTH);
-    match roomy_table(bank, pass, l, count) {
-        Some(table) => {
-            value_fits(value);
-            let called = Call::List {
-                container: l,
-                call: ListCall::Append { value },
-            };
-            let number = append_box(bank, pass, l, table, count, value, held, &called);
-            Added::Made(Stamp {
-                number,
-                wrote: true,
-            })
-        }
-        None => {
-            release(bank, pass, held);
-            append_by(bank, pass, l, value)
-        }
-    }
+    let item = BoxedItem {
+        place: count,
+        value,
+        at: keep(bank, pass, held),
+    };
+    add_box(bank, pass, l, count, item, &called)
+}
+
+/// `l.insert(i, v)`, under the lock, where `v` stands in a box for which the pass holds the one reference. The item names
+/// that box then; where an equal value stood there already, and maybe at the next places, the first item after them does.
+/// Where the call isn't made the reference is dropped: who makes it again makes a box again.
+///
+/// # Errors
+///
+/// As those of `append_by`.
+pub fn insert_held(
+    bank: &Bank,
+    pass: &mut Pass,
+    l: Object,
+    index: i64,
+    value: Value,
+    held: Held,
+) -> Added
+    requires pass { IsPassOf bank.now pass.old }
+    requires may { MayBeginList (shape_of bank.now) l (view pass.old) }
+    requires used { used (view pass.old).log ≡ false }
+    requires idle { flight (view pass.old).log ≡ 0 }
+    requires held { HoldsValue (box_of held) value (view pass.old) }
+    requires boxed { is_boxed value ≡ true }
+    ensures pass { IsPassOf bank.now pass.new }
+    ensures stack { stack_of pass.new ≡ stack_of pass.old }
+    ensures added { AddsHeld (shape_of bank.now) l (clamped_in (length (known_items l (view pass.old))) index) value
+        (box_of held) (call.List l (list.Insert index value)) (view pass.old) (view pass.new) result }
+{
+    value_fits(value);
+    let called = Call::List {
+        container: l,
+        call: ListCall::Insert { index, value },
+    };
+    let count = bank.read_block(pass, l, LENGTH);
+    let item = BoxedItem {
+        place: clamped(count, index),
+        value,
+        at: keep(bank, pass, held),
+    };
+    add_box(bank, pass, l, count, item, &called)
 }

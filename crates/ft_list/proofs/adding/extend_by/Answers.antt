@@ -16,6 +16,7 @@ use Rattle.ft_list.proofs.Lists.{items_loaded, may_loaded}
 use Rattle.ft_search.proofs.Overs.{held_same}
 use Rattle.ft_search.proofs.Puts.{few_done, few_same}
 use Rattle.ft_bank.proofs.DoneBoxes.{stays_settled_same}
+use Rattle.ft_list.proofs.AddedStored.{plain_added}
 use Rattle.ft_list.proofs.adding.extend_by.Goals as goal
 
 pub count_of-more-requires-clause-may : goal.count_of-more-requires-clause-may
@@ -89,16 +90,18 @@ returns-clause-added c =
     let f = c.count_of-more.ensures in
     let more : c.count_of-more.result ≡ length (known_items a.m v) = f.count ∙ ap length (items_loaded a.m v x c.count_of-count.ensures.only) in
     adds_items (shape_of a.bank.now) a.l (length (known_items a.m v)) c.root_table-old.result v u (view c.add_to.new.pass) (c.count_of-count.result + c.count_of-more.result) (call.List a.l (list.Extend a.m)) c.add_to.result
-    (loaded_then v x u c.count_of-count.ensures.only (loaded_then x y u f.only e.only)) e.list e.pass.1 c.root_table-old.new.pass.possible (λ d. c.count_of-count.ensures.count d + more d) c.add_to.ensures.added
+    (loaded_then v x u c.count_of-count.ensures.only (loaded_then x y u f.only e.only)) e.list e.pass.1 c.root_table-old.new.pass.possible (λ d. c.count_of-count.ensures.count d + more d) (plain_added (shape_of a.bank.now) _ _ _ _ u (view c.add_to.new.pass) c.add_to.result e.pass.1 (λ four. omega (arith, four)) c.add_to.ensures.added)
 
 pub returns-clause-cursors : goal.returns-clause-cursors
 returns-clause-cursors c number =
+    let a = c.args in
     let e = c.root_table-old.ensures in
-    added_cursors (shape_of c.args.bank.now) _ _ _ reply.Done (view c.root_table-old.new.pass) (view c.add_to.new.pass) c.add_to.result c.add_to.ensures.added number
+    let u = view c.root_table-old.new.pass in
+    added_cursors (shape_of c.args.bank.now) _ _ _ reply.Done (view c.root_table-old.new.pass) (view c.add_to.new.pass) c.add_to.result (plain_added (shape_of a.bank.now) _ _ _ _ u (view c.add_to.new.pass) c.add_to.result e.pass.1 (λ four. omega (arith, four)) c.add_to.ensures.added) number
     ∙ (e.only.work.pass.cursors number ∙ (c.count_of-more.ensures.only.work.pass.cursors number ∙ c.count_of-count.ensures.only.work.pass.cursors number))
 
-pub add_to-requires-clause-untaken : goal.add_to-requires-clause-untaken
-add_to-requires-clause-untaken c b taken =
+pub add_to-requires-clause-stores : goal.add_to-requires-clause-stores
+add_to-requires-clause-stores c b taken =
     let a = c.args in
     let l = loaded_then (view a.pass.now) (view c.count_of-count.new.pass) (view c.root_table-old.new.pass) c.count_of-count.ensures.only (loaded_then (view c.count_of-count.new.pass) (view c.count_of-more.new.pass) (view c.root_table-old.new.pass) c.count_of-more.ensures.only c.root_table-old.ensures.only) in
     c.requires.may.boxes.stored b (sym (l.boxes.made.uses b) ∙ taken)

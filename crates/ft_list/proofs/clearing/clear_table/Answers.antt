@@ -9,7 +9,6 @@ use Rattle.ft_trace.specs.Pictures.{root_in}
 use Rattle.ft_bank.specs.Passes.{shape_of, view}
 use Rattle.ft_bank.specs.WriteSteps.{Committed, MayCommit}
 use Rattle.ft_list.proofs.Emptying.{may_put_none, clear_may_commit, clear_stands, clear_root, clear_shut, clear_wrote, clear_of}
-use Rattle.ft_search.proofs.Puts.{few_done}
 use Rattle.ft_trace.specs.Boxes.{references_held}
 use Rattle.ft_list.proofs.clearing.clear_table.Goals as goal
 use Rattle.ft_list.proofs.clearing.clear_table.Goals.{After-commit-number}

@@ -193,12 +193,32 @@ pub fn set_default_held(
         }
         Spot::Free(table, slot) => {
             let at = (Some(table), slot);
-            let added = add_held(bank, pass, d, at, key, default, held, &called, &default_said);
+            let added = add_held(
+                bank,
+                pass,
+                d,
+                at,
+                key,
+                default,
+                held,
+                &called,
+                &default_said,
+            );
             (added, default_said)
         }
         Spot::Bare => {
             let at = (None, 0);
-            let added = add_held(bank, pass, d, at, key, default, held, &called, &default_said);
+            let added = add_held(
+                bank,
+                pass,
+                d,
+                at,
+                key,
+                default,
+                held,
+                &called,
+                &default_said,
+            );
             (added, default_said)
         }
     }

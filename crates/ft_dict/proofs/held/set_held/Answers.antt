@@ -98,8 +98,8 @@ returns-in-At-clause-put c =
     puts_there (shape_of a.bank.now) a.d a.key called reply.Done (view a.pass.now) u w c.seek_by.ensures.keeps c.written.result there (ap (λ (z : Stamp). z.wrote) c.written.ensures) (subst (λ (z : Stamp). WroteThere (shape_of a.bank.now) a.d a.key called reply.Done z.number u w) (sym c.written.ensures) m)
 
 not_true : (x : Bool) → (x ≡ true → ⊥) → x ≡ false
-not_true true no = absurd (no refl)
-not_true false no = refl
+not_true true never = absurd (never refl)
+not_true false never = refl
 
 pub returns-in-At-clause-names : goal.returns-in-At-clause-names
 returns-in-At-clause-names c stamp made other =
@@ -183,10 +183,10 @@ add_held-requires-in-Bare-clause-serials c = serials (goal.at.add_held-requires-
 pub add_held-requires-in-Bare-clause-adds : goal.add_held-requires-in-Bare-clause-adds
 add_held-requires-in-Bare-clause-adds c = adds (goal.at.add_held-requires-in-Bare-clause-adds c).After-seek_by c.in-Bare.ensures.spot.1
 
-pub returns-in-Bare-clause-put : goal.returns-in-Bare-clause-put
-returns-in-Bare-clause-put c =
+pub returns-clause-put : goal.returns-clause-put
+returns-clause-put c =
     let a = c.args in
     puts_new (shape_of a.bank.now) a.d a.key (call.Dict a.d (dict.Set a.key a.value)) reply.Done (view a.pass.now) (view c.seek_by.new.pass) (view c.add_held-in-Bare.new.pass) c.seek_by.ensures.keeps (box_of a.held) c.add_held-in-Bare.result c.in-Bare.ensures.spot.1 c.add_held-in-Bare.ensures.put
 
-pub returns-in-Bare-clause-names : goal.returns-in-Bare-clause-names
-returns-in-Bare-clause-names c stamp made other = c.add_held-in-Bare.ensures.put.names stamp made
+pub returns-clause-names : goal.returns-clause-names
+returns-clause-names c stamp made other = c.add_held-in-Bare.ensures.put.names stamp made

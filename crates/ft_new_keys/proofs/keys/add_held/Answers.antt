@@ -35,12 +35,12 @@ returns-then-is_made-clause-put c =
 -- ---- it wasn't, and the reference is dropped
 
 unmade : (c : After-is_made) → c.is_made.result ≡ false → (stamp : Stamp) → c.add_new-added.result ≢ added.Made stamp
-unmade c no stamp is = true≢false (sym (c.is_made.ensures.1 (stamp, is)) ∙ no)
+unmade c unlike stamp is = true≢false (sym (c.is_made.ensures.1 (stamp, is)) ∙ unlike)
 
 same_then : (c : After-is_made) → c.is_made.result ≡ false → Untouched (view c.args.pass.now) (view c.add_new-added.new.pass)
-same_then c no =
+same_then c unlike =
     let a = c.args in
-    puts_untouched (shape_of a.bank.now) a.d a.key (Some c.keep-b.result) a.called.now a.said.now (view a.pass.now) (view c.add_new-added.new.pass) c.add_new-added.result (unmade c no) c.add_new-added.ensures.put
+    puts_untouched (shape_of a.bank.now) a.d a.key (Some c.keep-b.result) a.called.now a.said.now (view a.pass.now) (view c.add_new-added.new.pass) c.add_new-added.result (unmade c unlike) c.add_new-added.ensures.put
 
 pub taken-dropped-requires-clause-held : goal.taken-dropped-requires-clause-held
 taken-dropped-requires-clause-held c =

@@ -182,7 +182,7 @@ pub fn set_default_held(
         container: d,
         call: DictCall::SetDefault { key, default },
     };
-    let default_said = Reply::Value(default);
+    let reply = Reply::Value(default);
     let hash = bank.hash_of(key);
     match seek_by(bank, pass, d, Way::Dict, key, hash) {
         Spot::At(_, _, value_kind, payload) => {
@@ -193,33 +193,13 @@ pub fn set_default_held(
         }
         Spot::Free(table, slot) => {
             let at = (Some(table), slot);
-            let added = add_held(
-                bank,
-                pass,
-                d,
-                at,
-                key,
-                default,
-                held,
-                &called,
-                &default_said,
-            );
-            (added, default_said)
+            let added = add_held(bank, pass, d, at, key, default, held, &called, &reply);
+            (added, reply)
         }
         Spot::Bare => {
             let at = (None, 0);
-            let added = add_held(
-                bank,
-                pass,
-                d,
-                at,
-                key,
-                default,
-                held,
-                &called,
-                &default_said,
-            );
-            (added, default_said)
+            let added = add_held(bank, pass, d, at, key, default, held, &called, &reply);
+            (added, reply)
         }
     }
 }

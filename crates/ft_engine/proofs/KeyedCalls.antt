@@ -42,6 +42,7 @@ replaced_comes : (k : Shape) (takes : Option ℕ) (called : Call) (v w : View) (
 replaced_comes k None called v w (added.Made stamp) left x = cleared_comes called stamp v w x
 replaced_comes k None called v w (added.NoTable class stamp) left x = absurd x
 replaced_comes k None called v w (added.Over stamp) left x = absurd x
+replaced_comes k None called v w (added.NoPlace stamp) left x = absurd x
 replaced_comes k None called v w (added.Moved a b) left x = absurd x
 replaced_comes k (Some class) called v w what left x = loaded_comes k (Some class) false called reply.Done v x.0 w what left x.1 x.2
 

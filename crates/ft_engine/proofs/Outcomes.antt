@@ -201,6 +201,7 @@ added_comes k takes over called said v w (added.NoTable class stamp) left x =
     let adds = answered_adds called (reply.Raised (raise.Memory class)) stamp x.3.0 w x.1 (subst (λ (z : ℕ). 0 < z) (sym n.left) left) x.3.2 in
     (before_adds called (reply.Raised (raise.Memory class)) stamp v x.3.0 w n adds, owners_then v x.3.0 w (tried_owners k class took.AllTaken v x.3.0 x.3.1) (answered_owners called (reply.Raised (raise.Memory class)) stamp.number x.3.0 w x.3.2))
 added_comes k takes over called said v w (added.Over stamp) left x = (answered_adds called (reply.Raised raise.Over) stamp v w x.1 left x.2, answered_owners called (reply.Raised raise.Over) stamp.number v w x.2)
+added_comes k takes over called said v w (added.NoPlace stamp) left x = absurd x
 added_comes k takes over called said v w (added.Moved a b) left x = (tried_nothing k x.1.0 (took.Moved a b) v w x.1.2, tried_owners k x.1.0 (took.Moved a b) v w x.1.2, moved_by k x.1.0 a b v w x.1.2)
 
 -- after loads

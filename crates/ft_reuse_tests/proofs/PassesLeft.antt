@@ -57,6 +57,7 @@ added_next k None over called said v w (added.Made stamp) x = x.2.wrote.pass.nex
 added_next k (Some class) over called said v w (added.Made stamp) x = let g = x.2 in retired_next _ g.done w g.retired ∙ (g.wrote.pass.next ∙ g.tried.same.next)
 added_next k takes over called said v w (added.NoTable class stamp) x = let a = x.3.2 in ap (λ (u : View). u.next) a.answered ∙ (a.loaded.work.pass.next ∙ x.3.1.same.next)
 added_next k takes over called said v w (added.Over stamp) x = let a = x.2 in ap (λ (u : View). u.next) a.answered ∙ a.loaded.work.pass.next
+added_next k takes over called said v w (added.NoPlace stamp) x = absurd x
 added_next k takes over called said v w (added.Moved a b) x = x.1.2.same.next
 
 items_next : (k : Shape) (o : ℕ) (called : Call) (n : ℕ) (v w : View) (what : Added) → AddsItems k o called n v w what → w.next ≡ v.next

@@ -36,4 +36,5 @@ added_cursors k takes over called said v w (added.NoTable class stamp) x =
     let y = x.3 in
     λ number. answered_cursors called _ stamp.number y.0 w y.2 number ∙ y.1.same.cursors number
 added_cursors k takes over called said v w (added.Over stamp) x = answered_cursors called _ stamp.number v w x.2
+added_cursors k takes over called said v w (added.NoPlace stamp) x = absurd x
 added_cursors k takes over called said v w (added.Moved a b) x = x.1.2.same.cursors

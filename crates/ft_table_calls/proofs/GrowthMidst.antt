@@ -236,6 +236,7 @@ module _ (b : Bank) (p q : Pass) (m : IsMaking b p) (pass : IsPassOf b q) (stack
       let none : IsStill y.0 = tried_still k class took.AllTaken u y.0 still_then y.1 (λ t. tried_out k class took.AllTaken u y.0 still_then y.1 t (y.1.hands t tt)) y.1.has in
       making_answered called _ stamp.number y.0 leaves y.1.same none y.2
   making_added k takes over called said (added.Over stamp) leaves x = making_answered called _ stamp.number u leaves (same_pass u) still_then x.2
+  making_added k takes over called said (added.NoPlace stamp) leaves x = absurd x
   making_added k takes over called said (added.Moved a b') leaves x =
       let y = x.1 in
       making_same y.2.same (tried_still k y.0 (took.Moved a b') u (view q) still_then y.2 (λ t. tried_out k y.0 (took.Moved a b') u (view q) still_then y.2 t (y.2.hands t tt)) y.2.has)

@@ -101,7 +101,8 @@ WroteWith k (Some class) called said number v w = Grew k class called said numbe
 
 -- What a call comes to under its locks that takes no table or one of this class, and that would leave more than the
 -- largest table holds or not. It was made as a write with this reply. Or the count of its class was 0 at the one load
--- of this call. Or it would leave too much. Or tables of its class were taken or given by others meanwhile.
+-- of this call. Or it would leave too much. Or tables of its class were taken or given by others meanwhile. It takes no
+-- place of a heap.
 abbrev pub IsAdded : Shape → Option ℕ → Bool → Call → Reply → View → View → Added → Type 0
 IsAdded k takes over called said v w (added.Made stamp) =
     (over ≡ false) × (stamp.wrote ≡ true) × WroteWith k takes called said stamp.number v w
@@ -111,5 +112,6 @@ IsAdded k takes over called said v w (added.NoTable class stamp) =
     × Answered called (reply.Raised (raise.Memory class)) stamp.number u w)
 IsAdded k takes over called said v w (added.Over stamp) =
     (over ≡ true) × (stamp.wrote ≡ false) × Answered called (reply.Raised raise.Over) stamp.number v w
+IsAdded k takes over called said v w (added.NoPlace stamp) = ⊥
 IsAdded k takes over called said v w (added.Moved a b) =
     (over ≡ false) × ((class : ℕ) × (takes ≡ Some class) × TriedTaking k class (took.Moved a b) v w)

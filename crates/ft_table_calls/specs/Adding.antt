@@ -85,6 +85,29 @@ pub record Grew (k : Shape) (class : ℕ) (called : Call) (said : Reply) (number
   pub references : SameReferences taken done
   pub retired : Retires (root_in (held_words (changes called) taken)) done w
 
+-- Whatever became of references, the pass made the call as one whole write, which left the root of the container.
+-- (profile)
+pub record WroteThere (called : Call) (said : Reply) (number : ℕ) (v w : View) : Type 0 where
+  pub wrote : Wrote called said number v w
+  pub root : root_in (held_words (changes called) w) ≡ root_in (held_words (changes called) v)
+
+-- Or it took a table of this class and made the call as one whole write that put it into the root of the container in the
+-- place of another table or of none; then it retired the table that the root named before. (profile)
+pub record GrewInto (k : Shape) (class : ℕ) (called : Call) (said : Reply) (number : ℕ) (v w : View) : Type 0 where
+  pub table : Table
+  pub taken : View
+  pub tried : TriedTaking k class (took.Taken table) v taken
+  pub other : root_in (held_words (changes called) taken) ≢ suc (table_id table)
+  pub done : View
+  pub wrote : Wrote called said number taken done
+  pub root : root_in (held_words (changes called) done) ≡ suc (table_id table)
+  pub retired : Retires (root_in (held_words (changes called) taken)) done w
+
+-- the write of a call that takes no table, or one of this class
+abbrev pub WroteInto : Shape → Option ℕ → Call → Reply → ℕ → View → View → Type 0
+WroteInto k None called said number v w = WroteThere called said number v w
+WroteInto k (Some class) called said number v w = GrewInto k class called said number v w
+
 -- The pass made the call as one whole write that left the container no table, and holds the same references of boxes as
 -- before; then it retired the table that the container had, if it had one. (profile)
 pub record GaveUp (called : Call) (said : Reply) (number : ℕ) (v w : View) : Type 0 where
@@ -115,3 +138,15 @@ IsAdded k takes over called said v w (added.Over stamp) =
 IsAdded k takes over called said v w (added.NoPlace stamp) = ⊥
 IsAdded k takes over called said v w (added.Moved a b) =
     (over ≡ false) × ((class : ℕ) × (takes ≡ Some class) × TriedTaking k class (took.Moved a b) v w)
+
+-- The same of a call that may store boxes: what became of references isn't said where it was made.
+abbrev pub IsAddedInto : Shape → Option ℕ → Bool → Call → Reply → View → View → Added → Type 0
+IsAddedInto k takes over called said v w (added.Made stamp) =
+    (over ≡ false) × (stamp.wrote ≡ true) × WroteInto k takes called said stamp.number v w
+IsAddedInto k takes over called said v w (added.NoTable class stamp) =
+    IsAdded k takes over called said v w (added.NoTable class stamp)
+IsAddedInto k takes over called said v w (added.Over stamp) =
+    IsAdded k takes over called said v w (added.Over stamp)
+IsAddedInto k takes over called said v w (added.NoPlace stamp) = ⊥
+IsAddedInto k takes over called said v w (added.Moved a b) =
+    IsAdded k takes over called said v w (added.Moved a b)

@@ -120,6 +120,7 @@ unmade_leaves k takes over called v w (added.Over stamp) unmade x = record {
   shape = answered_shape called _ stamp.number v w x.2;
   writes = answered_writes called _ stamp.number v w x.2;
 }
+unmade_leaves k takes over called v w (added.NoPlace stamp) unmade x = absurd x
 unmade_leaves k takes over called v w (added.Moved a b) unmade x =
     let y = x.1.2 in
     record { references = y.keeps.boxes.references; made = y.keeps.boxes.made; shape = y.same.shape; writes = y.same.writes }
@@ -129,6 +130,7 @@ unmade_added : (k : Shape) (takes : Option ℕ) (over : Bool) (stored : Stored) 
 unmade_added k takes over stored called v w (added.Made stamp) unmade x = absurd (true≢false unmade)
 unmade_added k takes over stored called v w (added.NoTable class stamp) unmade x = x
 unmade_added k takes over stored called v w (added.Over stamp) unmade x = x
+unmade_added k takes over stored called v w (added.NoPlace stamp) unmade x = absurd x
 unmade_added k takes over stored called v w (added.Moved a b) unmade x = x
 
 -- ---- the box, where the call was made
@@ -171,6 +173,7 @@ made_gives k (Some class) over stored called v w (added.Made stamp) shape made x
     }
 made_gives k takes over stored called v w (added.NoTable class stamp) shape made x = absurd (true≢false (sym made))
 made_gives k takes over stored called v w (added.Over stamp) shape made x = absurd (true≢false (sym made))
+made_gives k takes over stored called v w (added.NoPlace stamp) shape made x = absurd x
 made_gives k takes over stored called v w (added.Moved a b) shape made x = absurd (true≢false (sym made))
 
 -- ---- both
@@ -179,6 +182,7 @@ pub unmade_is : (what : Added) → ¬ IsMade what → is_made what ≡ false
 unmade_is (added.Made stamp) none = absurd (none (stamp, refl))
 unmade_is (added.NoTable class stamp) none = refl
 unmade_is (added.Over stamp) none = refl
+unmade_is (added.NoPlace stamp) none = refl
 unmade_is (added.Moved a b) none = refl
 
 -- the pass, which is to add a value in a box, came to this at d, and then to w
@@ -258,6 +262,7 @@ module _ (k : Shape) (o place : ℕ) (value : Value) (b : Ref) (called : Call) (
       made_held (added.Made stamp) x adds refl drops n (drops, subst (λ (z : View). HasWordsFrom o (known_items o v) place value 4 (box_id b) z) (sym drops) n.0)
   held_added (added.NoTable class stamp) x adds named drops = unmade_held (added.NoTable class stamp) x adds refl drops drops.only
   held_added (added.Over stamp) x adds named drops = unmade_held (added.Over stamp) x adds refl drops drops.only
+  held_added (added.NoPlace stamp) x adds named drops = absurd x
   held_added (added.Moved p q) x adds named drops = unmade_held (added.Moved p q) x adds refl drops drops.only
 
 -- the same before loads
@@ -285,4 +290,5 @@ held_loaded k o place value b called v u w what loaded is =
     at (added.Made stamp) s = (s.0, subst (λ (z : ContainerState). HasWordsFrom o (list_of z.content) place value 4 (box_id b) w) (work_knows v u o loaded.work) s.1)
     at (added.NoTable class stamp) s = s
     at (added.Over stamp) s = s
+    at (added.NoPlace stamp) s = s
     at (added.Moved p q) s = s

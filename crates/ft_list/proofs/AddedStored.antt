@@ -158,12 +158,14 @@ plain_added k (Some class) over stored called v w (added.Made stamp) shape ne x 
     )
 plain_added k takes over stored called v w (added.NoTable class stamp) shape ne x = x
 plain_added k takes over stored called v w (added.Over stamp) shape ne x = x
+plain_added k takes over stored called v w (added.NoPlace stamp) shape ne x = x
 plain_added k takes over stored called v w (added.Moved a b) shape ne x = x
 
 abbrev pub is_made : Added → Bool
 is_made (added.Made stamp) = true
 is_made (added.NoTable class stamp) = false
 is_made (added.Over stamp) = false
+is_made (added.NoPlace stamp) = false
 is_made (added.Moved a b) = false
 
 pub not_made : {A : Type 0} (what : Added) → is_made what ≡ false → IsMade what → A

@@ -113,6 +113,7 @@ IsAddedStoring k takes over stored called v w (added.NoTable class stamp) =
     IsAdded k takes over called reply.Done v w (added.NoTable class stamp)
 IsAddedStoring k takes over stored called v w (added.Over stamp) =
     IsAdded k takes over called reply.Done v w (added.Over stamp)
+IsAddedStoring k takes over stored called v w (added.NoPlace stamp) = ⊥
 IsAddedStoring k takes over stored called v w (added.Moved a b) =
     IsAdded k takes over called reply.Done v w (added.Moved a b)
 
@@ -130,6 +131,7 @@ HasStored o place value b v u w (added.Made stamp) =
     (w ≡ u) × HasWordsFrom o (known_items o v) place value box_kind (box_id b) w
 HasStored o place value b v u w (added.NoTable class stamp) = OnlyBoxed u w
 HasStored o place value b v u w (added.Over stamp) = OnlyBoxed u w
+HasStored o place value b v u w (added.NoPlace stamp) = ⊥
 HasStored o place value b v u w (added.Moved c d) = OnlyBoxed u w
 
 -- What a call that adds one item to the list o comes to under the lock, where the item's value stands in this box, for

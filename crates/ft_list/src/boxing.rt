@@ -194,7 +194,7 @@ fn drop_unmade(bank: &Bank, pass: &mut Pass, at: Ref, added: Added) -> Added
 {
     match added {
         Added::Made(_) => {}
-        Added::NoTable(_, _) | Added::Over(_) | Added::Moved(_, _) => {
+        Added::NoTable(_, _) | Added::Over(_) | Added::NoPlace(_) | Added::Moved(_, _) => {
             let held = taken(bank, pass, at);
             release(bank, pass, held);
         }

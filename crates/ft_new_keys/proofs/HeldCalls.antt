@@ -94,6 +94,7 @@ put_plain k o key (Some class) over called said v w (added.Made stamp) shape don
     )
 put_plain k o key takes over called said v w (added.NoTable class stamp) shape done x = x
 put_plain k o key takes over called said v w (added.Over stamp) shape done x = x
+put_plain k o key takes over called said v w (added.NoPlace stamp) shape done x = x
 put_plain k o key takes over called said v w (added.Moved a b) shape done x = x
 
 pub adds_plain : (k : Shape) (o : ℕ) (key : Key) (called : Call) (said : Reply) (v w : View) (what : Added) → v.shape ≡ k → IsDoneWithBoxes k v.log → PutsOne k o key None called said v w what → AddsOne k o called said v w what
@@ -130,6 +131,7 @@ put_cursors k o key boxed (Some class) over called said v w (added.Made stamp) x
     λ number. (retired_same (root_in (held_words (changes called) y.taken)) y.done w y.retired).cursors number ∙ (y.wrote.pass.cursors number ∙ y.tried.same.cursors number)
 put_cursors k o key boxed takes over called said v w (added.NoTable class stamp) x = added_cursors k takes over called said v w (added.NoTable class stamp) x
 put_cursors k o key boxed takes over called said v w (added.Over stamp) x = added_cursors k takes over called said v w (added.Over stamp) x
+put_cursors k o key boxed takes over called said v w (added.NoPlace stamp) x = absurd x
 put_cursors k o key boxed takes over called said v w (added.Moved a b) x = added_cursors k takes over called said v w (added.Moved a b) x
 
 -- ---- where it isn't made
@@ -166,6 +168,7 @@ put_untouched k o key boxed takes over called said v w (added.NoTable class stam
     let y = x.3 in
     untouched_then v y.0 w (tried_untouched k class _ v y.0 y.1) (answered_untouched called _ stamp.number y.0 w y.2)
 put_untouched k o key boxed takes over called said v w (added.Over stamp) ne x = answered_untouched called _ stamp.number v w x.2
+put_untouched k o key boxed takes over called said v w (added.NoPlace stamp) ne x = absurd x
 put_untouched k o key boxed takes over called said v w (added.Moved a b) ne x = tried_untouched k x.1.0 _ v w x.1.2
 
 pub puts_untouched : (k : Shape) (o : ℕ) (key : Key) (boxed : Option Ref) (called : Call) (said : Reply) (v w : View) (what : Added) → ((stamp : Stamp) → what ≢ added.Made stamp) → PutsOne k o key boxed called said v w what → Untouched v w

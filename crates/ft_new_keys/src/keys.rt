@@ -275,7 +275,7 @@ fn is_made(what: Added) -> bool
 {
     match what {
         Added::Made(_) => true,
-        Added::NoTable(_, _) | Added::Over(_) | Added::Moved(_, _) => false,
+        Added::NoTable(_, _) | Added::Over(_) | Added::NoPlace(_) | Added::Moved(_, _) => false,
     }
 }
 

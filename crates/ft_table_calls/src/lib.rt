@@ -15,7 +15,7 @@ mod made;
 mod retiring;
 mod under_locks;
 
-pub use crate::adding::{Added, answer_no_table, answer_over};
+pub use crate::adding::{Added, answer_full, answer_no_table, answer_over};
 pub use crate::dropping::{ValuePlaces, drop_value, drop_values};
 pub use crate::made::Made;
 pub use crate::retiring::retire_old;

@@ -48,4 +48,5 @@ abbrev pub DropsUnmade : Ref → View → View → Added → Type 0
 DropsUnmade b v w (added.Made stamp) = w ≡ v
 DropsUnmade b v w (added.NoTable class stamp) = Drops b v w
 DropsUnmade b v w (added.Over stamp) = Drops b v w
+DropsUnmade b v w (added.NoPlace stamp) = Drops b v w
 DropsUnmade b v w (added.Moved first second) = Drops b v w

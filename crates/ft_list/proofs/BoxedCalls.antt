@@ -28,8 +28,8 @@ module _ (k : Shape) (o : ℕ) (value : Value) (called : Call) (v x u w : View) 
   few_items count is low = le-ltb most_items (length (known_items o v) + 1) (omega (arith, is, low))
 
   pub with_box : (place : ℕ) (b : Ref) (what : Added) → nat_lt most_items (length (known_items o v) + 1) ≡ false → AddsHeld k o place value b called u w what → AddsBoxed k o place value called v w what
-  with_box place b (added.Made stamp) few is = (few, u, both, b, is)
-  with_box place b (added.NoTable class stamp) few is = (few, u, both, b, is)
+  with_box place b (added.Made stamp) few is = (few, (u, both, (b, is)))
+  with_box place b (added.NoTable class stamp) few is = (few, (u, both, (b, is)))
   with_box place b (added.Over stamp) few is = absurd (true≢false (sym is.added.2.0 ∙ (ap (λ (xs : List Value). nat_lt most_items (length xs + 1)) items ∙ few)))
   with_box place b (added.NoPlace stamp) few is = absurd is.added.2
-  with_box place b (added.Moved p q) few is = (few, u, both, b, is)
+  with_box place b (added.Moved p q) few is = (few, (u, both, (b, is)))

@@ -10,16 +10,16 @@ ghost use Rattle.ft_trace.specs.Boxes.{IsDoneWithBoxes};
 ghost use Rattle.ft_bank.specs.Passes.{shape_of, view, IsPassOf};
 ghost use Rattle.ft_bank.specs.PassSections.{stack_of};
 ghost use Rattle.ft_table_calls.specs.Adding.{KeepsCursors};
-ghost use Rattle.ft_list.specs.BoxedCalls.{AddsBoxed};
+ghost use Rattle.ft_list.specs.BoxedCalls.{AddsBoxed, SetsBoxed};
 ghost use Rattle.ft_list.specs.ListItemWrites.{known_items};
 ghost use Rattle.ft_list.specs.ListWrites.{MayWriteList};
 
-use crate::boxing::{append_held, insert_held};
-use crate::locked::{count_of, value_fits};
+use crate::boxing::{append_held, insert_held, set_held};
+use crate::locked::{count_of, place_in, raise, value_fits};
 use ft_bank::{Bank, Pass};
 use ft_boxes::{Made, make};
-use ft_model::{Call, ListCall, MOST_ITEMS, Value};
-use ft_section::Object;
+use ft_model::{Call, ListCall, MOST_ITEMS, Raise, Reply, Value};
+use ft_section::{Object, Stamp};
 use ft_table_calls::{Added, answer_full, answer_over};
 
 /// `l.append(v)`, by a pass that has the list's lock (Python manual, Mutable Sequence Types), where `v` belongs in a box.
@@ -85,5 +85,47 @@ pub fn insert_boxed(bank: &Bank, pass: &mut Pass, l: Object, index: i64, value: 
     match make(bank, pass, value) {
         Made::Up(held) => insert_held(bank, pass, l, index, value, held),
         Made::HeapFull => Added::NoPlace(answer_full(bank, pass, &called)),
+    }
+}
+
+/// `l[i] = v`, by a pass that has the list's lock (Python manual, Mutable Sequence Types), where `v` belongs in a box. An
+/// index that names no item is told before a box is made.
+pub fn set_boxed(
+    bank: &Bank,
+    pass: &mut Pass,
+    l: Object,
+    index: i64,
+    value: Value,
+) -> (Reply, Stamp)
+    requires pass { IsPassOf bank.now pass.old }
+    requires may { MayWriteList (shape_of bank.now) l (view pass.old) }
+    requires boxed { is_boxed value ≡ true }
+    ensures pass { IsPassOf bank.now pass.new }
+    ensures stack { stack_of pass.new ≡ stack_of pass.old }
+    ensures made { SetsBoxed (shape_of bank.now) (call.List l (list.Set index value)) result.0 result.1 (view pass.old)
+        (view pass.new) }
+    ensures boxes { IsDoneWithBoxes (shape_of bank.now) (view pass.new).log }
+{
+    let called = Call::List {
+        container: l,
+        call: ListCall::Set { index, value },
+    };
+    let count = count_of(bank, pass, l);
+    match place_in(count, index) {
+        Some(_) => {
+            value_fits(value);
+            match make(bank, pass, value) {
+                Made::Up(held) => set_held(bank, pass, l, index, value, held),
+                Made::HeapFull => {
+                    let stamp = answer_full(bank, pass, &called);
+                    (Reply::Raised(Raise::Heap), stamp)
+                }
+            }
+        }
+        None => {
+            let said = Reply::Raised(Raise::NoIndex);
+            let stamp = raise(bank, pass, l, &called, &said);
+            (said, stamp)
+        }
     }
 }

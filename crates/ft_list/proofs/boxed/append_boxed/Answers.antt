@@ -1,4 +1,4 @@
-use Rattle.std.proofs.Common.{ℕ, length, ap, subst}
+use Rattle.std.proofs.Common.{ℕ, length, refl, ap, subst}
 use Rattle.ft_model.specs.declared.call.Call.TheVariants as call
 use Rattle.ft_model.specs.declared.call.ListCall.TheVariants as list
 use Rattle.ft_bank.specs.Passes.{shape_of, view}
@@ -41,4 +41,7 @@ returns-in-HeapFull-clause-added c =
     let count = c.count_of-count.ensures in
     let made = c.in-HeapFull.ensures.made in
     let same = c.make.ensures.only.work.pass in
-    (few_items k a.l a.value called v x u w count.only c.make.ensures.only c.count_of-count.result count.count c.if-count.false, c.answer_full.ensures.wrote, (u, both k a.l a.value called v x u w count.only c.make.ensures.only, heap_full x u made.0 made.1 same.shape same.number count.may.boxes.stored, c.answer_full.ensures.answered))
+    (
+      few_items k a.l a.value called v x u w count.only c.make.ensures.only c.count_of-count.result count.count c.if-count.false,
+      record { said_is = refl; unwritten = c.answer_full.ensures.wrote; before = u; boxed = both k a.l a.value called v x u w count.only c.make.ensures.only; full = heap_full x u made.0 made.1 same.shape same.number count.may.boxes.stored; answered = c.answer_full.ensures.answered },
+    )

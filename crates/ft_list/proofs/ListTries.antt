@@ -1,5 +1,5 @@
 -- Calls on lists that a pass made under their locks: it is in the midst of its call still.
-use Rattle.std.proofs.Common.{◌≡◌, ℕ, Result, refl}
+use Rattle.std.proofs.Common.{◌≡◌, ℕ, Bool, Option, Some, None, Result, refl, sym, ◌∙◌, subst, inl, inr}
 use Rattle.std.specs.declared.alloc.AllocError.{AllocError}
 use Rattle.ft_model.specs.declared.call.Call.TheVariants as call
 use Rattle.ft_model.specs.declared.call.ListCall.{ListCall}
@@ -17,11 +17,26 @@ use Rattle.ft_search.specs.MadeCalls.{MadeAs}
 use Rattle.ft_search.proofs.Calling.{making_made}
 use Rattle.ft_search.proofs.ReadMidst.{making_read}
 use Rattle.ft_table_calls.specs.declared.adding.Added.{Added}
-use Rattle.ft_table_calls.proofs.GrowthMidst.{making_added, making_given}
+use Rattle.ft_table_calls.specs.declared.adding.Added.TheVariants as added
+use Rattle.ft_table_calls.specs.Adding.{IsAddedInto}
+use Rattle.ft_table_calls.proofs.GrowthMidst.{making_added, making_given, making_into, making_read_boxed, making_wrote_boxed}
 use Rattle.ft_reads.specs.Clears.{IsCleared}
 use Rattle.ft_reads.specs.Copies.{IsCopied}
 use Rattle.ft_reads.proofs.CopyMidst.{making_copied}
+use Rattle.ft_list.specs.BoxedCalls.{AddsBoxed, SetsBoxed}
+use Rattle.ft_list.specs.HeldValues.{AddsHeld, IsAddedStoring}
 use Rattle.ft_list.specs.ListGrowth.{AddsItems}
+use Rattle.ft_layout.specs.declared.slot.Ref.{Ref}
+use Rattle.ft_layout.specs.declared.slot.Stored.{Stored}
+use Rattle.ft_layout.specs.declared.slot.Stored.TheVariants.{Boxed}
+use Rattle.ft_model.specs.declared.call.Call.{Call}
+use Rattle.ft_model.specs.declared.data.Value.{Value}
+use Rattle.ft_trace.specs.declared.View.{View}
+use Rattle.ft_trace.specs.Boxes.{IsDoneWithBoxes}
+use Rattle.ft_bank.specs.Passes.{shape_of}
+use Rattle.ft_bank.specs.Whole.{OnlyBoxed}
+use Rattle.ft_bank.proofs.KnownAfterWrites.{boxed_then, loaded_boxed}
+use Rattle.ft_search.proofs.Calling.{loaded_same}
 
 pub list_made : {b : Bank} {p q : Pass} {o : ℕ} {lc : ListCall} {said : Reply} {stamp : Stamp} → IsMaking b p → IsPassOf b q → stack_of q ≡ stack_of p → MadeAs (call.List o lc) said stamp (view p) (view q) → IsMaking b q
 list_made {b = b} {p = p} {q = q} {o = o} {lc = lc} {said = said} {stamp = stamp} m pass stack x = making_made b p q (call.List o lc) said stamp (λ n l sections. refl) m pass stack x
@@ -37,3 +52,47 @@ list_read {b = b} {p = p} {q = q} {o = o} {lc = lc} {said = said} {n = n} m pass
 
 pub list_copied : {b : Bank} {p q : Pass} (o : ℕ) (lc : ListCall) (made : Result (Reply × Stamp) AllocError) → IsMaking b p → IsPassOf b q → stack_of q ≡ stack_of p → IsCopied (call.List o lc) (view p) (view q) made → IsMaking b q
 list_copied {b = b} {p = p} {q = q} o lc made m pass stack x = making_copied b p q (call.List o lc) made (λ n l sections. refl) m pass stack x
+
+-- ---- values in boxes
+
+storing_into : (k : Shape) (takes : Option ℕ) (over : Bool) (stored : Stored) (called : Call) (v w : View) (what : Added) → IsAddedStoring k takes over stored called v w what → IsAddedInto k takes over called reply.Done v w what
+storing_into k None over stored called v w (added.Made stamp) x = (x.0, x.1, record { wrote = x.2.wrote; root = x.2.root })
+storing_into k (Some class) over stored called v w (added.Made stamp) x =
+    let y = x.2 in
+    (x.0, x.1, record { table = y.table; taken = y.taken; tried = y.tried; other = y.other; done = y.done; wrote = y.wrote; root = y.root; retired = y.retired })
+storing_into k takes over stored called v w (added.NoTable class stamp) x = x
+storing_into k takes over stored called v w (added.Over stamp) x = x
+storing_into k takes over stored called v w (added.NoPlace stamp) x = x
+storing_into k takes over stored called v w (added.Moved a b) x = x
+
+module _ (b : Bank) (p q : Pass) (o : ℕ) (lc : ListCall) (m : IsMaking b p) (pass : IsPassOf b q) (stack : stack_of q ≡ stack_of p) (done : IsDoneWithBoxes (shape_of b) (view q).log) where
+  done_q : IsDoneWithBoxes (view q).shape (view q).log
+  done_q = subst (λ (k : Shape). IsDoneWithBoxes k (view q).log) (sym pass.1) done
+
+  none_q : OnlyBoxed (view q) (view q)
+  none_q = loaded_boxed (view q) (view q) (loaded_same (view q))
+
+  list_held : (k : Shape) (place : ℕ) (value : Value) (box : Ref) (u : View) (what : Added) → OnlyBoxed (view p) u → (x : AddsHeld k o place value box (call.List o lc) u (view q) what) → OnlyBoxed x.done (view q) → IsMaking b q
+  list_held k place value box u what boxed x last =
+      let a = x.added in
+      making_into b p q m pass stack a.0 x.done (boxed_then (view p) u a.0 boxed (loaded_boxed u a.0 a.1)) last done_q k _ _ (call.List o lc) reply.Done what (λ n l sections. refl) (storing_into k _ _ (Boxed box) (call.List o lc) a.0 x.done what a.2)
+
+  pub list_boxed : (k : Shape) (place : ℕ) (value : Value) (what : Added) → AddsBoxed k o place value (call.List o lc) (view p) (view q) what → IsMaking b q
+  list_boxed k place value (added.Made stamp) x =
+      let h = x.1.2.1 in
+      list_held k place value x.1.2.0 x.1.0 (added.Made stamp) x.1.1 h (subst (λ (z : View). OnlyBoxed z (view q)) h.stored.0 none_q)
+  list_boxed k place value (added.NoTable class stamp) x = let h = x.1.2.1 in list_held k place value x.1.2.0 x.1.0 (added.NoTable class stamp) x.1.1 h h.stored
+  list_boxed k place value (added.Over stamp) x = list_added k o 1 lc (added.Over stamp) m pass stack x
+  list_boxed k place value (added.NoPlace stamp) x =
+      let f = x.1 in
+      making_read_boxed b p q m pass stack f.before (view q) f.boxed none_q done_q (call.List o lc) _ stamp.number (λ n l sections. refl) f.answered
+  list_boxed k place value (added.Moved c d) x = let h = x.1.2.1 in list_held k place value x.1.2.0 x.1.0 (added.Moved c d) x.1.1 h h.stored
+
+  pub list_set_boxed : (k : Shape) (said : Reply) (stamp : Stamp) → SetsBoxed k (call.List o lc) said stamp (view p) (view q) → IsMaking b q
+  list_set_boxed k said stamp (inl x) = list_made m pass stack x
+  list_set_boxed k said stamp (inr (inl f)) = making_read_boxed b p q m pass stack f.before (view q) f.boxed none_q done_q (call.List o lc) said stamp.number (λ n l sections. refl) f.answered
+  list_set_boxed k said stamp (inr (inr x)) = either x.2.made
+    where
+      either : _ → IsMaking b q
+      either (inl y) = making_wrote_boxed b p q m pass stack x.2.before (view q) (boxed_then (view p) x.0 x.2.before x.1 x.2.boxed) none_q done_q (call.List o lc) said stamp.number y.1 (λ t. x.2.hands t ∙ sym (x.2.boxed.work.hands t))
+      either (inr y) = making_read_boxed b p q m pass stack x.2.before (view q) (boxed_then (view p) x.0 x.2.before x.1 x.2.boxed) none_q done_q (call.List o lc) said stamp.number (λ n l sections. refl) y.1

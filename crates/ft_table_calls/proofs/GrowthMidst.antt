@@ -321,9 +321,22 @@ module _ (b : Bank) (p q : Pass) (m : IsMaking b p) (pass : IsPassOf b q) (stack
       let t = z.1 in
       boxed_making t.2.same (tried_calm k t.0 (took.Moved a b') x y calm_then t.2 (λ n. tried_out k t.0 (took.Moved a b') x y calm_then t.2 n (t.2.hands n tt)) t.2.has)
 
-  -- the heap was found full by then
-  pub making_full : (called : Call) (said : Reply) (n : ℕ) → LeavesSections called → Answered called said n x y → IsMaking b q
-  making_full called said n leaves a = boxed_answered called said n x leaves (same_pass x) calm_then a
+  -- an entry that isn't a write
+  pub making_read_boxed : (called : Call) (said : Reply) (n : ℕ) → LeavesSections called → Answered called said n x y → IsMaking b q
+  making_read_boxed called said n leaves a = boxed_answered called said n x leaves (same_pass x) calm_then a
+
+  -- a write after which no other table is in hand
+  pub making_wrote_boxed : (called : Call) (said : Reply) (n : ℕ) → Wrote called said n x y → ((t : ℕ) → stage t y.log ≡ stage t x.log) → IsMaking b q
+  making_wrote_boxed called said n wrote hands =
+      boxed_making wrote.pass
+      (record {
+        even = λ o. wrote.pass.writes o ∙ calm_then.even o;
+        hands = λ t. subst IsOut (sym (hands t)) (calm_then.hands t);
+        used = wrote.used;
+        owes = wrote.owes;
+        flight = wrote.pass.flight ∙ calm_then.flight;
+        stands = stands_after called said n x y calm_then wrote;
+      })
 
 -- ---- a call that gives up a table
 

@@ -1,5 +1,5 @@
 -- Calls on lists that a pass made under their locks: it is in the midst of its call still.
-use Rattle.std.proofs.Common.{◌≡◌, ℕ, Bool, Option, Some, None, Result, refl, sym, ◌∙◌, subst, inl, inr}
+use Rattle.std.proofs.Common.{◌≡◌, ◌⊎◌, true, false, ℕ, Bool, Option, Some, None, Result, refl, sym, ◌∙◌, subst, inl, inr}
 use Rattle.std.specs.declared.alloc.AllocError.{AllocError}
 use Rattle.ft_model.specs.declared.call.Call.TheVariants as call
 use Rattle.ft_model.specs.declared.call.ListCall.{ListCall}
@@ -34,7 +34,7 @@ use Rattle.ft_model.specs.declared.data.Value.{Value}
 use Rattle.ft_trace.specs.declared.View.{View}
 use Rattle.ft_trace.specs.Boxes.{IsDoneWithBoxes}
 use Rattle.ft_bank.specs.Passes.{shape_of}
-use Rattle.ft_bank.specs.Whole.{OnlyBoxed}
+use Rattle.ft_bank.specs.Whole.{OnlyBoxed, Wrote}
 use Rattle.ft_bank.proofs.KnownAfterWrites.{boxed_then, loaded_boxed}
 use Rattle.ft_search.proofs.Calling.{loaded_same}
 
@@ -93,6 +93,6 @@ module _ (b : Bank) (p q : Pass) (o : ℕ) (lc : ListCall) (m : IsMaking b p) (p
   list_set_boxed k said stamp (inr (inl f)) = making_read_boxed b p q m pass stack f.before (view q) f.boxed none_q done_q (call.List o lc) said stamp.number (λ n l sections. refl) f.answered
   list_set_boxed k said stamp (inr (inr x)) = either x.2.made
     where
-      either : _ → IsMaking b q
+      either : ((stamp.wrote ≡ true) × Wrote (call.List o lc) said stamp.number x.2.before (view q)) ⊎ ((stamp.wrote ≡ false) × Answered (call.List o lc) said stamp.number x.2.before (view q)) → IsMaking b q
       either (inl y) = making_wrote_boxed b p q m pass stack x.2.before (view q) (boxed_then (view p) x.0 x.2.before x.1 x.2.boxed) none_q done_q (call.List o lc) said stamp.number y.1 (λ t. x.2.hands t ∙ sym (x.2.boxed.work.hands t))
       either (inr y) = making_read_boxed b p q m pass stack x.2.before (view q) (boxed_then (view p) x.0 x.2.before x.1 x.2.boxed) none_q done_q (call.List o lc) said stamp.number (λ n l sections. refl) y.1

@@ -88,12 +88,10 @@ fn append(bank: &Bank, pass: &mut Pass, l: Object, value: Value) -> Made
     ensures stack { stack_of pass.new ≡ stack_of pass.old }
     ensures made { ListCallMakes (shape_of bank.now) l (list.Append value) result (view pass.old) (view pass.new) }
 {
-    let added = if value.is_boxed() {
-        append_boxed(bank, pass, l, value)
-    } else {
-        append_by(bank, pass, l, value)
-    };
-    Made::after(added, Reply::Done)
+    if value.is_boxed() {
+        return Made::after(append_boxed(bank, pass, l, value), Reply::Done);
+    }
+    Made::after(append_by(bank, pass, l, value), Reply::Done)
 }
 
 /// The same, apart: room for all that it makes is cleared at the beginning of the function that it stands in.
@@ -120,12 +118,10 @@ fn insert(bank: &Bank, pass: &mut Pass, l: Object, index: i64, value: Value) -> 
     ensures stack { stack_of pass.new ≡ stack_of pass.old }
     ensures made { ListCallMakes (shape_of bank.now) l (list.Insert index value) result (view pass.old) (view pass.new) }
 {
-    let added = if value.is_boxed() {
-        insert_boxed(bank, pass, l, index, value)
-    } else {
-        insert_by(bank, pass, l, index, value)
-    };
-    Made::after(added, Reply::Done)
+    if value.is_boxed() {
+        return Made::after(insert_boxed(bank, pass, l, index, value), Reply::Done);
+    }
+    Made::after(insert_by(bank, pass, l, index, value), Reply::Done)
 }
 
 /// Sets an item of the list `l`, by a pass that has its lock.
@@ -138,12 +134,10 @@ fn set(bank: &Bank, pass: &mut Pass, l: Object, index: i64, value: Value) -> Mad
     ensures stack { stack_of pass.new ≡ stack_of pass.old }
     ensures made { ListCallMakes (shape_of bank.now) l (list.Set index value) result (view pass.old) (view pass.new) }
 {
-    let answer = if value.is_boxed() {
-        set_boxed(bank, pass, l, index, value)
-    } else {
-        set_locked(bank, pass, l, index, value)
-    };
-    Made::done(answer)
+    if value.is_boxed() {
+        return Made::done(set_boxed(bank, pass, l, index, value));
+    }
+    Made::done(set_locked(bank, pass, l, index, value))
 }
 
 /// Makes a call on the list `l`, by a pass that has the locks of its lists.

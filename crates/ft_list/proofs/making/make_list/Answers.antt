@@ -57,3 +57,14 @@ returns-in-Len-clause-making c =
     let e = c.len_locked.ensures in
     let is = c.requires.call ∙ ap (λ (lc : ListCall). call.List c.args.l lc) c.in-Len.is in
     list_read c.requires.making e.pass e.sections (subst (λ (x : Call). Answered x c.len_locked.result.0 c.len_locked.result.1.number (view c.args.pass.now) (view c.len_locked.new.pass)) is e.answered)
+
+pub returns-in-Insert-clause-made : goal.returns-in-Insert-clause-made
+returns-in-Insert-clause-made c =
+    let k = shape_of c.args.bank.now in
+    let l = c.args.l in
+    let v = view c.args.pass.now in
+    let w = view c.insert.new.pass in
+    let fits : SFits w64 c.in-Insert.index = search rules in
+    let same = to_z-of_z {w = w64} {z = c.in-Insert.index} fits in
+    subst (λ (lc : ListCall). ListCallMakes k l lc c.insert.result v w) (sym c.in-Insert.is)
+    (subst (λ (i : ℤ). ListCallMakes k l (list.Insert i c.in-Insert.value) c.insert.result v w) same c.insert.ensures.made)

@@ -20,7 +20,7 @@ use Rattle.ft_bank.specs.declared.takings.Took.{Took}
 use Rattle.ft_bank.specs.declared.takings.Took.TheVariants as took
 use Rattle.ft_bank.specs.Answered.{Answered}
 use Rattle.ft_bank.specs.Logs.{HasGrown, StaysOnline}
-use Rattle.ft_bank.specs.Whole.{OnlyLoaded, SamePass, Wrote}
+use Rattle.ft_bank.specs.Whole.{OnlyBoxed, OnlyLoaded, SamePass, Wrote}
 use Rattle.ft_section.specs.declared.answers.Objects.{Objects}
 use Rattle.ft_section.specs.declared.answers.Stamp.{Stamp}
 use Rattle.ft_section.specs.declared.answers.Step.{Step}
@@ -32,7 +32,7 @@ use Rattle.ft_table_calls.specs.declared.adding.Added.{Added}
 use Rattle.ft_table_calls.specs.declared.adding.Added.TheVariants as added
 use Rattle.ft_table_calls.specs.declared.made.Made.{Made}
 use Rattle.ft_table_calls.specs.declared.made.Made.TheVariants as made
-use Rattle.ft_table_calls.specs.Adding.{GaveUp, IsAdded, Retires, TriedTaking, WroteWith}
+use Rattle.ft_table_calls.specs.Adding.{GaveUp, IsAdded, IsAddedInto, Retires, TriedTaking, WroteWith}
 use Rattle.ft_table_calls.specs.TriesUnderLocks.{IsMade, IsRead, IsTry, UnderLocks, made_after}
 use Rattle.ft_reads.specs.Clears.{IsClear, IsCleared}
 use Rattle.ft_reads.specs.Copies.{IsCopy}
@@ -214,6 +214,45 @@ loaded_comes k takes over called said v u w what left l x =
     after (made.Done r s) n comes = (before_adds called r s v u w n comes.0, owners_then v u w (loaded_owners v u l) comes.1)
     after (made.Moved a b) n comes = (nothing_then v u w n comes.0, owners_then v u w (loaded_owners v u l) comes.1, moved_then a b v u w w n comes.2 (same_nothing w))
     after made.NoMemory n comes = (nothing_then v u w n comes.0, owners_then v u w (loaded_owners v u l) comes.1, comes.2)
+
+-- ---- calls that store a value in a box
+
+pub boxed_nothing : (v w : View) → OnlyBoxed v w → MakesNoEntry v w
+boxed_nothing v w l = record { pass = stays_same v w l.work.pass; entries = l.work.entries; left = l.work.left; cursors = l.work.pass.cursors }
+
+-- between steps that make no entry
+pub around_comes : (called : Call) (came : Made) (v u w z : View) → MakesNoEntry v u → SameOwners v u → Comes called u w came → MakesNoEntry w z → SameOwners w z → Comes called v z came
+around_comes called (made.Done r s) v u w z n o comes m p = (nothing_entry called r s v u w z n comes.0.seen comes.0 m, owners_then v u z o (owners_then u w z comes.1 p))
+around_comes called (made.Moved a b) v u w z n o comes m p = (nothing_then v u z n (nothing_then u w z comes.0 m), owners_then v u z o (owners_then u w z comes.1 p), moved_then a b v u w z n comes.2 m)
+around_comes called made.NoMemory v u w z n o comes m p = (nothing_then v u z n (nothing_then u w z comes.0 m), owners_then v u z o (owners_then u w z comes.1 p), comes.2)
+
+into_comes : (k : Shape) (takes : Option ℕ) (over : Bool) (called : Call) (said : Reply) (v w : View) (what : Added) → 0 < v.left → IsAddedInto k takes over called said v w what → Comes called v w (made_after what said)
+into_comes k None over called said v w (added.Made stamp) left x = (wrote_entry called said stamp v w x.1 x.2.wrote, wrote_owners called said stamp.number v w x.2.wrote)
+into_comes k (Some class) over called said v w (added.Made stamp) left x =
+    let y = x.2 in (
+      write_adds called said stamp v y.taken y.done w x.1 (tried_nothing k class (took.Taken y.table) v y.taken y.tried) y.wrote (retired_nothing _ y.done w y.retired),
+      owners_then v y.taken w (tried_owners k class (took.Taken y.table) v y.taken y.tried) (owners_then y.taken y.done w (wrote_owners called said stamp.number y.taken y.done y.wrote) (retired_owners _ y.done w y.retired)),
+    )
+into_comes k takes over called said v w (added.NoTable class stamp) left x = added_comes k takes over called said v w (added.NoTable class stamp) left x
+into_comes k takes over called said v w (added.Over stamp) left x = added_comes k takes over called said v w (added.Over stamp) left x
+into_comes k takes over called said v w (added.NoPlace stamp) left x = absurd x
+into_comes k takes over called said v w (added.Moved a b) left x = added_comes k takes over called said v w (added.Moved a b) left x
+
+-- after steps with boxes and before such
+pub held_comes : (k : Shape) (takes : Option ℕ) (over : Bool) (called : Call) (said : Reply) (v x y w : View) (what : Added) → 0 < v.left → OnlyBoxed v x → IsAddedInto k takes over called said x y what → OnlyBoxed y w → Comes called v w (made_after what said)
+held_comes k takes over called said v x y w what left before is after =
+    let n = boxed_nothing v x before in
+    around_comes called (made_after what said) v x y w n before.work.pass.owners (into_comes k takes over called said x y what (subst (λ (z : ℕ). 0 < z) (sym n.left) left) is) (boxed_nothing y w after) after.work.pass.owners
+
+-- an entry that isn't a write
+pub boxed_answered_comes : (called : Call) (said : Reply) (stamp : Stamp) (v u w : View) → 0 < v.left → stamp.wrote ≡ false → OnlyBoxed v u → Answered called said stamp.number u w → Comes called v w (made.Done said stamp)
+boxed_answered_comes called said stamp v u w left unwritten before a =
+    let n = boxed_nothing v u before in
+    around_comes called (made.Done said stamp) v u w w n before.work.pass.owners (answered_adds called said stamp u w unwritten (subst (λ (z : ℕ). 0 < z) (sym n.left) left) a, answered_owners called said stamp.number u w a) (same_nothing w) (record { had = refl; found = refl })
+
+pub boxed_wrote_comes : (called : Call) (said : Reply) (stamp : Stamp) (v u w : View) → stamp.wrote ≡ true → OnlyBoxed v u → Wrote called said stamp.number u w → Comes called v w (made.Done said stamp)
+boxed_wrote_comes called said stamp v u w wrote before x =
+    around_comes called (made.Done said stamp) v u w w (boxed_nothing v u before) before.work.pass.owners (wrote_entry called said stamp u w wrote x, wrote_owners called said stamp.number u w x) (same_nothing w) (record { had = refl; found = refl })
 
 -- a clear
 gave_up_adds : (called : Call) (said : Reply) (stamp : Stamp) (v u w : View) → stamp.wrote ≡ true → OnlyLoaded v u → GaveUp called said stamp.number u w → MakesEntry called said stamp v w

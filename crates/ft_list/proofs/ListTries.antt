@@ -55,7 +55,7 @@ list_copied {b = b} {p = p} {q = q} o lc made m pass stack x = making_copied b p
 
 -- ---- values in boxes
 
-storing_into : (k : Shape) (takes : Option ℕ) (over : Bool) (stored : Stored) (called : Call) (v w : View) (what : Added) → IsAddedStoring k takes over stored called v w what → IsAddedInto k takes over called reply.Done v w what
+pub storing_into : (k : Shape) (takes : Option ℕ) (over : Bool) (stored : Stored) (called : Call) (v w : View) (what : Added) → IsAddedStoring k takes over stored called v w what → IsAddedInto k takes over called reply.Done v w what
 storing_into k None over stored called v w (added.Made stamp) x = (x.0, x.1, record { wrote = x.2.wrote; root = x.2.root })
 storing_into k (Some class) over stored called v w (added.Made stamp) x =
     let y = x.2 in

@@ -44,23 +44,23 @@ use Rattle.ft_trace.proofs.EarlierMoments.{was}
 use Rattle.ft_trace.proofs.Optimistic.{looked_at, looked_at_both}
 use Rattle.ft_trace.proofs.NoWrap.{counter_room}
 use Rattle.ft_trace.proofs.Rule as rule
-use Rattle.ft_trace.proofs.Replying.{never_writes, memory_replied}
+use Rattle.ft_trace.proofs.Replying.{boxes_replied, boxing_plain, never_writes, memory_replied}
 use Rattle.ft_trace.proofs.Sizes.{sized}
 use Rattle.ft_trace.proofs.Spots.{stamp_then}
 use Rattle.ft_bank.specs.Reads.{IsShown}
-use Rattle.ft_bank.specs.Shown.{MayAsk, NeedsNoCause, AwaitsAreShown, KeyIsShown, DictHitsAreShown, ValuesAreRead, SetHitsAreShown, MissesAreShown, ItemsAreShown, ItemsAreRead, PastItemsAreShown, LooksAreShown, LooksAtBothAreShown, KeepLocks, LoadedUnderLocks, RepliesUnderLocksAreShown, CursorsUnderLocksAreShown, MemoryErrorsAreShown, OversAreShown, SerialsHaveRoom}
+use Rattle.ft_bank.specs.Shown.{MayAsk, NeedsNoCause, AwaitsAreShown, KeyIsShown, DictHitsAreShown, ValuesAreRead, SetHitsAreShown, MissesAreShown, ItemsAreShown, ItemsAreRead, PastItemsAreShown, LooksAreShown, LooksAtBothAreShown, KeepLocks, LoadedUnderLocks, RepliesUnderLocksAreShown, CursorsUnderLocksAreShown, HeapErrorsAreShown, MemoryErrorsAreShown, OversAreShown, SerialsHaveRoom}
 use Rattle.ft_bank.specs.WriteSteps.{MayHave}
 use Rattle.ft_bank.proofs.Readying.{has_now}
 
 -- ---- causes
 
 key_caused : (o : ℕ) (key : Key) (found : Option Value) → NeedsNoCause (call.Dict o (dict.Get key)) (key_reply found)
-key_caused o key (Some value) stored log n = refl
-key_caused o key None stored log n = refl
+key_caused o key (Some value) stored v n = refl
+key_caused o key None stored v n = refl
 
 item_caused : (o place : ℕ) (found : Option Value) → NeedsNoCause (call.List o (list.Get (pos place))) (item_reply found)
-item_caused o place (Some value) stored log n = refl
-item_caused o place None stored log n = refl
+item_caused o place (Some value) stored v n = refl
+item_caused o place None stored v n = refl
 
 -- ---- plain replies
 
@@ -71,7 +71,7 @@ plain_shown v o n ask call said reads none caused replied = record {
   left = ask.left;
   loaded = ask.loaded;
   replied = replied;
-  cause = λ es id knows. caused (stored_newest v.shape.starts (first_writes n (history es))) v.log n;
+  cause = λ es id knows. caused (stored_newest v.shape.starts (first_writes n (history es))) v n;
   no_cursor = λ es id knows. none;
 }
 
@@ -222,9 +222,9 @@ cursors_under_locks_are_shown v call reply n number cursor l moved right = recor
 
 -- a reply to a call that asks no cursor wherever the pass knows this
 replies_shown : (v : View) (call : Call) (said : Reply) (n : ℕ) → LoadedUnderLocks v n → is_write call said ≡ false → Sure v (λ es. moved_cursor call ≡ None)
-    → ((stored : StoredWorld) → MayHave v stored → IsReplied call said (reply_in stored call) × HasCause stored v.log call said n) → IsShown v call said n
+    → ((stored : StoredWorld) → MayHave v stored → IsReplied call said (reply_in stored call) × HasCause stored v call said n) → IsShown v call said n
 replies_shown v call said n l reads none right =
-    let r : Sure v (λ es. IsReplied call said (reply_in (stored_newest v.shape.starts (first_writes n (history es))) call) × HasCause (stored_newest v.shape.starts (first_writes n (history es))) v.log call said n) = λ es id knows. right (stored_newest v.shape.starts (first_writes n (history es))) (loaded_then v n l es id knows) in
+    let r : Sure v (λ es. IsReplied call said (reply_in (stored_newest v.shape.starts (first_writes n (history es))) call) × HasCause (stored_newest v.shape.starts (first_writes n (history es))) v call said n) = λ es id knows. right (stored_newest v.shape.starts (first_writes n (history es))) (loaded_then v n l es id knows) in
     record {
       read = reads;
       left = l.left;
@@ -262,6 +262,14 @@ overs_are_shown v call n l right =
     (λ stored has.
     let r = right stored has in
     (memory_replied (reply.Raised raise.Over) refl call r.0.adds (reply_in stored call), r))
+
+pub heap_errors_are_shown : HeapErrorsAreShown
+heap_errors_are_shown v call n l full right =
+    replies_shown v call (reply.Raised raise.Heap) n l (never_writes (is_changing call))
+    (λ es id knows. boxing_plain (stored_newest v.shape.starts (first_writes n (history es))).world call (right (stored_newest v.shape.starts (first_writes n (history es))) (loaded_then v n l es id knows)).0.boxes)
+    (λ stored has.
+    let r = right stored has in
+    (boxes_replied stored.world call r.0.boxes (reply_in stored call), (r.0, r.1, full)))
 
 -- ---- serials
 

@@ -67,6 +67,7 @@ fits_of s is = record {
   some_pass = is.passes.0;
   passes = is.passes.1;
   landed = All-map (λ start. is_landed_start start ≡ true) start_as s.kinds.items (All-weaker (λ kind. is_landed_kind kind ≡ true) (λ kind. is_landed_start (start_as kind) ≡ true) (λ kind landed. ap (λ (b : Bool). b && true) landed) s.kinds.items is.landed);
+  heap = (let h = is.heap in (h.1, h.2));
   containers = (let m = length-map s.kinds.items start_as in let c = is.containers in omega (arith, m, c));
   tables = λ c class. (is.tables.counts (c - 3) 0 (let n = is.tables.classes in let a = class.least in let b = class.greatest in omega (arith, n, a, b))).1;
 }

@@ -11,6 +11,7 @@ use Rattle.ft_trace.specs.declared.Told.{Told}
 use Rattle.ft_trace.specs.Acts.{all_lists, tells}
 use Rattle.ft_trace.specs.InOrder.{AreInOrder}
 use Rattle.ft_trace.specs.Owners.{had_locks, found_owners}
+use Rattle.ft_trace.specs.HeapErrors.{HeapErrorsFollowBoxings}
 use Rattle.ft_trace.specs.OwnOrder.{AreInOwnOrder, IsWriteIn}
 use Rattle.ft_trace.specs.ToldEntries.{AgreeOnPasses, AreAwaitsTold}
 use Rattle.ft_bank.specs.Shapes.{plan}
@@ -41,11 +42,12 @@ told_of c = tells c.pass.seat.me.0
 -- There are writes, the oldest first, beside which all these entries stand: each write is that of one entry, and each
 -- entry has the reply of the plain containers at its stamp, or that of a section, or a MemoryError with its cause
 -- there. The stamps of each pass rise, and inside a section that it says it kept no other pass wrote on the section's
--- containers.
+-- containers; before a MemoryError of a heap as many of its writes put a value in a box as its heap has places.
 abbrev pub HasWholeHistory : Closed → Type 0
 HasWholeHistory c =
     ∥ ((calls : List Call) × AreInOrder (shape_in c) calls (entries_in c)
-    × All (AreInOwnOrder (IsWriteIn calls)) (lists_in c)) ∥₁
+    × All (AreInOwnOrder (IsWriteIn calls)) (lists_in c)
+    × All (HeapErrorsFollowBoxings (shape_in c) calls) (lists_in c)) ∥₁
 
 -- what was told of one pass agrees, and each `await` was told of the call that it names
 abbrev pub HasToldAwaits : Closed → Type 0

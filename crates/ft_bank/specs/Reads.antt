@@ -22,7 +22,7 @@ pub record IsShown (v : View) (call : Call) (reply : Reply) (number : ℕ) : Typ
   pub loaded : Loaded number v.log
   pub replied : Sure v (λ es. IsReplied call reply
       (reply_in (stored_newest v.shape.starts (first_writes number (history es))) call))
-  pub cause : Sure v (λ es. HasCause (stored_newest v.shape.starts (first_writes number (history es))) v.log call reply
+  pub cause : Sure v (λ es. HasCause (stored_newest v.shape.starts (first_writes number (history es))) v call reply
       number)
   pub no_cursor : Sure v (λ es. moved_cursor call ≡ None)
 

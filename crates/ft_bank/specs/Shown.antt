@@ -26,7 +26,7 @@ use Rattle.ft_trace.specs.declared.Act.TheVariants.{ReadCounter, Lock, Unlock, T
 use Rattle.ft_trace.specs.declared.View.{View}
 use Rattle.ft_trace.specs.Acts.{has_lock, told_in}
 use Rattle.ft_trace.specs.Addresses.{container_count, class_of, slots}
-use Rattle.ft_trace.specs.Causes.{AreOfOneCall, Loaded, FoundEmpty, HasCause, IsToldOf}
+use Rattle.ft_trace.specs.Causes.{AreOfOneCall, CanLackPlace, Loaded, FoundEmpty, HasCause, HeapIsFull, IsToldOf}
 use Rattle.ft_trace.specs.Hands.{cursor_in, MovesCursor}
 use Rattle.ft_trace.specs.HeldReads.{IsEntryReadHeld, IsItemReadHeld}
 use Rattle.ft_trace.specs.Holds.{known_state}
@@ -45,9 +45,9 @@ pub record MayAsk (v : View) (o n : ℕ) : Type 0 where
   pub left : 0 < v.left
   pub loaded : Loaded n v.log
 
--- the reply stands by itself: whatever a bank has and a log shows, it has its cause
+-- the reply stands by itself: whatever a bank has and a pass knows, it has its cause
 abbrev pub NeedsNoCause : Call → Reply → Type 0
-NeedsNoCause called said = (stored : StoredWorld) (log : List Act) (n : ℕ) → HasCause stored log called said n
+NeedsNoCause called said = (stored : StoredWorld) (v : View) (n : ℕ) → HasCause stored v called said n
 
 -- ---- keys
 
@@ -161,7 +161,7 @@ RepliesUnderLocksAreShown =
     (v : View) (call : Call) (said : Reply) (n : ℕ) → LoadedUnderLocks v n → is_write call said ≡ false
     → moved_cursor call ≡ None
     → ((stored : StoredWorld) → MayHave v stored
-    → IsReplied call said (reply_in stored call) × HasCause stored v.log call said n)
+    → IsReplied call said (reply_in stored call) × HasCause stored v call said n)
     → IsShown v call said n
 
 -- an `iter` or a `next` of the cursor that the pass has under this number, answered so by whatever the bank has that
@@ -189,6 +189,14 @@ OversAreShown =
     → ((stored : StoredWorld) → MayHave v stored
     → CanLackMemory stored.world call × (would_pass stored.world call ≡ true))
     → IsShown v call (reply.Raised raise.Over) n
+
+-- a MemoryError of a heap that was found full, to a call that would put a value in a box
+abbrev pub HeapErrorsAreShown : Type 0
+HeapErrorsAreShown =
+    (v : View) (call : Call) (n : ℕ) → LoadedUnderLocks v n → HeapIsFull v.shape v.number v.log
+    → ((stored : StoredWorld) → MayHave v stored
+    → CanLackPlace stored.world call × (would_pass stored.world call ≡ false))
+    → IsShown v call (reply.Raised raise.Heap) n
 
 -- ---- awaits
 

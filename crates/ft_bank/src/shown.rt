@@ -1,7 +1,7 @@
 //! What the log of a pass has to show for the entry of a call that isn't a write, for whoever looks without
 //! a lock, or answers under one: each law's conclusion is the condition of `Bank::answer`, so that no layer
 //! above meets a trace.
-ghost use Rattle.ft_bank.specs.Shown.{DictHitsAreShown, ValuesAreRead, SetHitsAreShown, MissesAreShown, ItemsAreShown, ItemsAreRead, PastItemsAreShown, LooksAreShown, LooksAtBothAreShown, RepliesUnderLocksAreShown, CursorsUnderLocksAreShown, MemoryErrorsAreShown, OversAreShown, AwaitsAreShown, SerialsHaveRoom};
+ghost use Rattle.ft_bank.specs.Shown.{DictHitsAreShown, ValuesAreRead, SetHitsAreShown, MissesAreShown, ItemsAreShown, ItemsAreRead, PastItemsAreShown, LooksAreShown, LooksAtBothAreShown, RepliesUnderLocksAreShown, CursorsUnderLocksAreShown, HeapErrorsAreShown, MemoryErrorsAreShown, OversAreShown, AwaitsAreShown, SerialsHaveRoom};
 
 /// A key that was found in a dict without the lock, with the value whose words were read: the condition of
 /// `Bank::answer` for the calls that look it up.
@@ -70,6 +70,11 @@ pub fn memory_errors_are_shown()
 /// `Bank::answer`.
 pub fn overs_are_shown()
     ensures { OversAreShown }
+{}
+
+/// A MemoryError of a heap may be answered to a call that would put a value in a box, by a pass that found its heap full.
+pub fn heap_errors_are_shown()
+    ensures { HeapErrorsAreShown }
 {}
 
 /// An await of a call that the pass was told of: the condition of `Bank::answer`.

@@ -14,6 +14,7 @@ use Rattle.ft_trace.specs.declared.Entry.{Entry}
 use Rattle.ft_trace.specs.declared.Owner.{Owner}
 use Rattle.ft_trace.specs.declared.Shape.{Shape}
 use Rattle.ft_trace.specs.declared.Told.{Told}
+use Rattle.ft_trace.specs.HeapErrors.{HeapErrorsFollowBoxings}
 use Rattle.ft_trace.specs.InOrder.{AreInOrder}
 use Rattle.ft_trace.specs.OwnCursors.{plain_entry, AsksWithin}
 use Rattle.ft_trace.specs.OwnOrder.{AreInOwnOrder, IsWriteIn}
@@ -74,12 +75,13 @@ AskOwnCursors script kept =
     → All (AsksWithin (cursors_of script thread)) mine
 
 -- entries of passes beside the writes in their order, and in the order of each pass, with replies by the hands that
--- each pass had, are numbered entries of the script
+-- each pass had and MemoryErrors of heaps by what each pass had boxed, are numbered entries of the script
 abbrev pub EntriesAreNumbered : Type 0
 EntriesAreNumbered =
     (k : Shape) (script : ScriptParts) (calls : List Call) (lists : List (List Entry)) (kept : List (List NamedEntry))
     (had found : List Owner) (told : List Told)
     → IsFor script k → AreInOrder k calls (flat_map (λ own. own) lists) → All (AreInOwnOrder (IsWriteIn calls)) lists
+    → All (HeapErrorsFollowBoxings k calls) lists
     → All (λ own. (room : ℕ) → AreReplied k.starts calls room own) lists
     → HaveNamedEntries 0 kept lists had found told → AskOwnCursors script kept → length kept ≡ length script.threads
     → AreNumberedLists storage.Tables script calls kept

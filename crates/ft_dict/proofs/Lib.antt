@@ -4,6 +4,7 @@ mod Reading
 mod Leaving
 mod Deleted
 mod NewKeys
+mod HeldSets
 mod Popping
 -- two dicts
 mod CopiedDicts

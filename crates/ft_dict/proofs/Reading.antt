@@ -110,7 +110,7 @@ module _ (v u : View) (d : ℕ) (key : Key) (found : Option Value) (loaded : Onl
       dict_replies w d key found (subst (λ k. d < container_count k) (sym loaded.work.pass.shape) low) (loaded.work.pass.locks d ∙ mine) fits stored may
       (subst (λ (z : ContainerState). HasValue z.content key found) (sym (work_knows v u d loaded.work)) has)
 
-  plain : (call : Call) (said : Reply) → is_write call said ≡ false → moved_cursor call ≡ None → ((stored : StoredWorld) → MayHave w stored → IsReplied call said (reply_in stored call)) → ((stored : StoredWorld) → HasCause stored w.log call said n) → IsShown w call said n
+  plain : (call : Call) (said : Reply) → is_write call said ≡ false → moved_cursor call ≡ None → ((stored : StoredWorld) → MayHave w stored → IsReplied call said (reply_in stored call)) → ((stored : StoredWorld) → HasCause stored w call said n) → IsShown w call said n
   plain call said reads none right cause = held_shown v u n loaded left call said reads none right cause
 
   pub get_shown : IsShown w (call.Dict d (dict.Get key)) (key_reply found) n

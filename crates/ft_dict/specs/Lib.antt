@@ -3,6 +3,7 @@ pub mod DictLooks
 pub mod Locked
 -- values that are put, and the last pair
 pub mod Values
+pub mod HeldSets
 pub mod Lasts
 -- copies to another dict
 pub mod DictCopies

@@ -27,5 +27,6 @@ pub mod LookCalls
 pub mod AtOnce
 pub mod MadeCalls
 pub mod MayCalls
+pub mod QuickTries
 pub mod SoFar
 pub mod AwaitCalls

@@ -21,4 +21,5 @@ pub mod Contents
 pub mod AtOnce
 pub mod MadeCalls
 pub mod MayCalls
+pub mod QuickTries
 pub mod Awaiting

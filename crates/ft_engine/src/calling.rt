@@ -7,6 +7,7 @@ ghost use Rattle.ft_engine.specs.Attempts.{ComesAgain, MayAttempt, StaysCaller, 
 ghost use Rattle.ft_engine.specs.Callers.{IsCallerOf, flight_of, pass_of, thread_of};
 ghost use Rattle.ft_engine.specs.Calling.{IsBetween, IsCalled, IsTried, last_of};
 ghost use Rattle.ft_engine.specs.Keeping.{WasAnswered};
+ghost use Rattle.ft_engine.specs.MadeCalls.{IsCallFor};
 ghost use Rattle.ft_engine.specs.SoFar.{IsAnsweredRight};
 ghost use Rattle.ft_engine.specs.OwnAnswers.{HasOwnAnswer};
 
@@ -15,8 +16,9 @@ use crate::attempts::Tried;
 use crate::caller::Caller;
 use crate::engine::Engine;
 use crate::pauses::Pauses;
+use crate::quick::Quick;
 use ft_model::{Call, Reply};
-use ft_section::{Object, Owner, Stamp};
+use ft_section::{Object, Owner, Stamp, Step};
 use std::alloc::Global;
 use std::sync::Wait;
 
@@ -82,6 +84,46 @@ impl Engine {
         unreachable!()
     }
 
+    /// A call that is none of the writes that are made most, tried until it is done.
+    #[inline(never)]
+    fn make_any<R: Wait>(&self, rt: &R, alloc: Global, caller: &mut Caller, call: &Call) -> Called
+        requires caller { IsCallerOf self.now caller.old }
+        requires may { MayAttempt self.now caller.old call.now }
+        ensures { IsCallFor self.now call.now result caller.old caller.new }
+    {
+        if !caller.may_at_once(call) {
+            return self.call_in_turn(rt, alloc, caller, call);
+        }
+        let step = try_at_once(&self.bank, &mut caller.pass, alloc, call);
+        self.end_at_once(rt, alloc, caller, call, step)
+    }
+
+    /// What `call` does, with all that it promises in one. It holds no code of a call, so that it may be inlined
+    /// wherever `call` is written.
+    #[inline(always)]
+    fn make<R: Wait>(&self, rt: &R, alloc: Global, caller: &mut Caller, call: &Call) -> Called
+        requires caller { IsCallerOf self.now caller.old }
+        requires may { MayAttempt self.now caller.old call.now }
+        ensures { IsCallFor self.now call.now result caller.old caller.new }
+    {
+        if !caller.is_free() {
+            return self.call_in_turn(rt, alloc, caller, call);
+        }
+        let mut rest = Step::NoMemory;
+        match self.quick(caller, call, &mut rest) {
+            Quick::Wrote(number) => Called::Done(
+                Reply::Done,
+                Stamp {
+                    number,
+                    wrote: true,
+                },
+                None,
+            ),
+            Quick::Came => self.end_at_once(rt, alloc, caller, call, rest),
+            Quick::Other => self.make_any(rt, alloc, caller, call),
+        }
+    }
+
     /// Tries a call until it is done, with a pause between two tries: the answer is that of the last try, and the mark
     /// is the first thread that a try found with a lock. After `Done` the caller has the locks of its innermost
     /// section, and no others but those that its open sections took. It may wait for other threads: nothing says that
@@ -105,10 +147,6 @@ impl Engine {
             IsAnsweredRight caller.new (entries_with_answer (thread_of caller.old) call.now (last_of result) mine) }
         ensures found_none { MemoryErrorsAreFound (view (pass_of caller.new)) }
     {
-        if !caller.may_at_once(call) {
-            return self.call_in_turn(rt, alloc, caller, call);
-        }
-        let step = try_at_once(&self.bank, &mut caller.pass, alloc, call);
-        self.end_at_once(rt, alloc, caller, call, step)
+        self.make(rt, alloc, caller, call)
     }
 }

@@ -26,6 +26,7 @@ mod looks;
 mod meetings;
 mod naming;
 mod pauses;
+mod quick;
 mod refusing;
 mod resting;
 mod section_call;

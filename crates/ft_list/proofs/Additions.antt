@@ -34,13 +34,14 @@ use Rattle.ft_list.specs.Internal.NewListTables.{KnowsList, MayAdd, MayGrowList,
 use Rattle.ft_list.proofs.ListCallFacts.{adds_changes, adds_grows, lacks_table, passes_most}
 use Rattle.ft_list.specs.declared.addition.Addition.{Addition}
 use Rattle.ft_list.specs.Internal.Additions.{with_added, KnowsItems, IsAddition}
+use Rattle.ft_list.proofs.AddedStored.{keeps_boxes}
 use Rattle.ft_list.proofs.Extending.{addition_on, news_on}
 use Rattle.ft_list.proofs.GrownLists.{knows_content, knows_on}
 use Rattle.ft_list.proofs.LookRounds.{slots_are}
 use Rattle.ft_list.proofs.Wanted.{list_use, wanted_some}
 use Rattle.ft_list.proofs.WholeListWrites.{grows_from}
 use Rattle.ft_search.proofs.Changing.{no_keys}
-use Rattle.ft_search.proofs.Puts.{few_done, few_same}
+use Rattle.ft_search.proofs.Puts.{few_same}
 use Rattle.ft_bank.proofs.DoneBoxes.{stays_settled_same}
 
 module _ (k : Shape) (o : ℕ) (old : Option Table) (v : View) (list : KnowsList k o old v) (shape : v.shape ≡ k) (possible : ∥ IsReachable v ∥₁) (lc : ListCall) (total : ℕ) (news : List Value) (adds : Adds o lc (known_items o v) news v) (long : length news ≡ total) where
@@ -145,8 +146,8 @@ module _ (F : ℕ → Type 0) (v u : View) (same : SamePass v u) (keeps : KeepsB
       let w = keeps.held.words o (subst (λ (z : Shape). o < container_count z) (sym shape) list.container) list.locked in
       knows_on k o old v u w.2 w.1 (same.locks o) (same.writes o) list
 
-  pub tried_addition : (k : Shape) (count : ℕ) (addition : Addition) → v.shape ≡ k → IsAddition k count addition v → IsAddition k count addition u
-  tried_addition k count addition shape is = addition_on k count addition v u
+  pub tried_addition : (k : Shape) (count : ℕ) (addition : Addition) → v.shape ≡ k → ∥ IsReachable v ∥₁ → IsAddition k count addition v → IsAddition k count addition u
+  tried_addition k count addition shape possible is = addition_on k count addition v u (keeps_boxes v u possible keeps.boxes)
       (λ p list. let w = keeps.held.words p (subst (λ (z : Shape). p < container_count z) (sym shape) list.container) list.locked in (w.2, w.1, same.locks p, same.writes p)) is
 
   pub tried_news : (k : Shape) (count : ℕ) (addition : Addition) → v.shape ≡ k → IsAddition k count addition v → (values : List Value) → with_added addition u values ≡ with_added addition v values
@@ -164,8 +165,8 @@ module _ (F : ℕ → Type 0) (v u : View) (same : SamePass v u) (keeps : KeepsB
     owed = owed ∙ ap suc (sym (class_is table table_in.2 ∙ of_class));
     fresh = fresh;
     table_in = table_in;
-    settled = (stays_settled_same v u keeps.boxes.made).settled may.boxes.settled;
-    few = few_same v u keeps.boxes.references (few_done k v shape may.boxes);
+    settled = (stays_settled_same v u keeps.boxes.made).settled may.settled;
+    few = few_same v u keeps.boxes.references may.few;
     left = subst (λ (n : ℕ). 0 < n) (sym keeps.held.left) may.left;
   }
 

@@ -1,11 +1,7 @@
 -- A table that is filled with the words of the one before: it reads the same, and names the same boxes as often.
-use Rattle.std.proofs.Common.{◌≡◌, ◌≢◌, ℕ, zero, suc, ◌+◌, ◌<◌, ◌≤◌, eqb, cond, List, ◌∷◌, length, Option, Some, None, refl, sym, ap, ◌∙◌, subst, arith}
+use Rattle.std.proofs.Common.{◌≡◌, ℕ, zero, suc, ◌<◌, ◌≤◌, eqb, cond, List, ◌∷◌, Option, Some, None, refl, sym, ap, ◌∙◌, subst, arith}
 use Rattle.std.specs.Prelude.{slice_index}
-use Rattle.std.proofs.Math.Logic.{∥∥₁_elim}
-use Rattle.std.proofs.Math.Nat.{ℕ_set}
 use mathlib.Core.Logic.{dite}
-use mathlib.Core.Option.{some-injective}
-use lib.ListN.{get_elem?}
 use native.Mathlib.Decide.{ℕ_discrete}
 use Rattle.ft_model.specs.declared.data.Value.{Value}
 use Rattle.ft_model.specs.declared.script.Kind.{Kind}
@@ -15,30 +11,21 @@ use Rattle.ft_layout.specs.declared.slot.Stored.TheVariants.{Empty}
 use Rattle.ft_layout.specs.Words.{IsStored}
 use Rattle.ft_trace.specs.declared.Shape.{Shape}
 use Rattle.ft_trace.specs.declared.View.{View}
-use Rattle.ft_trace.specs.Acts.{has_lock, is_writing, mem}
-use Rattle.ft_trace.specs.Addresses.{container_count, class_of, maker_of, slots}
-use Rattle.ft_trace.specs.Boxes.{known_box_word, named_in_container, named_in_root, names_box, names_box_at, place_use, use_taken}
-use Rattle.ft_trace.specs.BoxTraces.{was_stored}
+use Rattle.ft_trace.specs.Addresses.{container_count, class_of, slots}
+use Rattle.ft_trace.specs.Boxes.{known_box_word, named_in_root, names_box, names_box_at}
 use Rattle.ft_trace.specs.ContainerStates.{kind_in}
-use Rattle.ft_trace.specs.Holds.{held_words, held_unboxed, in_hand, hand_unboxed, known_state}
-use Rattle.ft_trace.specs.Kinds.{rows}
+use Rattle.ft_trace.specs.Holds.{held_words, held_unboxed, in_hand, hand_unboxed}
 use Rattle.ft_trace.specs.Pictures.{item_field, item_offset, root_in}
 use Rattle.ft_trace.specs.Sums.{sum_to}
-use Rattle.ft_trace.specs.Traces.{run, IsReachable}
+use Rattle.ft_trace.specs.Traces.{IsReachable}
 use Rattle.ft_trace.specs.Unboxed.{unboxed_rows, unboxed_table}
-use Rattle.ft_trace.proofs.Cases.{miss, off}
-use Rattle.ft_trace.proofs.NamedBoxes.{named_known}
-use Rattle.ft_trace.proofs.PlainPuts.{named_is}
+use Rattle.ft_trace.proofs.Cases.{miss}
 use Rattle.ft_trace.proofs.ReadTables.{read_item, read_version, rows_at, rows_long, value_low}
-use Rattle.ft_trace.proofs.Seats.{same_seat}
-use Rattle.ft_trace.proofs.SeenNames.{stored_at}
-use Rattle.ft_trace.proofs.StoredBoxes.{Writes}
 use Rattle.ft_trace.proofs.Sums.{sum_same}
 use Rattle.ft_bank.specs.declared.table.Table.{Table}
 use Rattle.ft_bank.specs.BoxSteps.{kind_read, payload_read}
 use Rattle.ft_bank.specs.SameBoxes.{named_in_words}
 use Rattle.ft_bank.specs.TableNames.{table_id, IsTableIn}
-use Rattle.ft_bank.proofs.DoneBoxes.{none_named}
 use Rattle.ft_search.proofs.Owning.{plain_seen}
 use Rattle.ft_list.specs.ListItemWrites.{known_items, stored_item}
 use Rattle.ft_list.specs.Internal.NewListTables.{CopiesItem, IsCopied, IsFilled, KnowsList}

@@ -1,5 +1,5 @@
 -- A whole write of a list without a table, which puts nothing.
-use Rattle.std.proofs.Common.{◌≡◌, ℕ, ◌<◌, ◌≤◌, Bool, true, List, Option, Some, None, sym, ap, ◌∙◌, subst, arith}
+use Rattle.std.proofs.Common.{◌≡◌, ◌≢◌, ℕ, ◌<◌, ◌≤◌, Bool, true, List, Option, Some, None, sym, ap, ◌∙◌, subst, arith}
 use Rattle.std.specs.Prelude.{◌&&◌, not, IfSome, if◌then◌else◌}
 use Rattle.std.specs.Option.{unwrap_or}
 use Rattle.ft_model.specs.declared.call.Call.{Call}
@@ -16,6 +16,7 @@ use Rattle.ft_trace.specs.declared.Snap.{Snap}
 use Rattle.ft_trace.specs.declared.View.{View}
 use Rattle.ft_trace.specs.Acts.{has_lock, view_after, seen_writes}
 use Rattle.ft_trace.specs.Addresses.{container_count}
+use Rattle.ft_trace.specs.Boxes.{place_use, use_taken}
 use Rattle.ft_trace.specs.Holds.{held_unboxed, known_state}
 use Rattle.ft_trace.specs.Pictures.{ContainerWords, root_in, Represents}
 use Rattle.ft_trace.specs.ContainerStates.{ContainerState, state_at, changes}
@@ -25,7 +26,7 @@ use Rattle.ft_bank.specs.WriteSteps.{MayHave, MayCommit, Committed, IsShut}
 use Rattle.ft_bank.proofs.KnownAfterWrites.{put_same, write_ends}
 use Rattle.ft_search.specs.OneEntryWrites.{Leaves}
 use Rattle.ft_search.proofs.ReadyCommits.{leaves_later, may_commit, whole_write}
-use Rattle.ft_list.specs.ListWrites.{MayWriteList, Changes}
+use Rattle.ft_list.specs.ListWrites.{MayBeginList, Changes}
 use Rattle.ft_list.proofs.Commits.{list_there, in_world, content_after}
 use Rattle.ft_list.proofs.ListMidst.{reply_changes}
 use Rattle.ft_list.proofs.Written.{written_same}
@@ -64,13 +65,13 @@ module _ (o : ℕ) (lc : ListCall) (said : Reply) (values : List Value) (v : Vie
   }
 
 -- from the version made odd to its end
-module _ (k : Shape) (o : ℕ) (v s : View) (f : ℕ) (may : MayWriteList k o v) (shape : v.shape ≡ k) (begun : s ≡ view_after (StartWrite o f) v) (bare : root_in (held_unboxed o v) ≡ 0) (called : Call) (said : Reply) (leaves : Leaves o called said (known_state o v) v) where
+module _ (k : Shape) (o : ℕ) (v s : View) (f : ℕ) (may : MayBeginList k o v) (untaken : (b : ℕ) → place_use b v.log ≢ use_taken) (shape : v.shape ≡ k) (begun : s ≡ view_after (StartWrite o f) v) (bare : root_in (held_unboxed o v) ≡ 0) (called : Call) (said : Reply) (leaves : Leaves o called said (known_state o v) v) where
   bare_then : root_in (held_unboxed o s) ≡ 0
   bare_then = ap (λ (z : View). root_in (held_unboxed o z)) begun ∙ bare
 
   pub nothing_commits : MayCommit s called said
   nothing_commits =
-      may_commit o v s s f begun (written_same o s) called said (known_state o v) leaves (subst (λ (z : Shape). o < container_count z) (sym shape) may.container) may.left may.owes may.boxes.stored
+      may_commit o v s s f begun (written_same o s) called said (known_state o v) leaves (subst (λ (z : Shape). o < container_count z) (sym shape) may.container) may.left may.owes untaken
       (λ t names. absurd (let r = bare_then in omega (arith, r, names)))
 
   module _ (number : ℕ) (snap : Snap) (w : View) (done : w ≡ view_after (Commit called said number snap) s) (committed : Committed s w called) where

@@ -117,7 +117,7 @@ may_put_none k o old v f shape possible list free few = record {
 
 -- ---- the whole write of a list that has a table
 
-module _ (k : Shape) (o : ℕ) (table : Table) (v s u : View) (may : MayAdd k o (Some table) v) (shape : v.shape ≡ k) (possible : ∥ IsReachable v ∥₁) (h : HasRooted o 0 v s) (root_held : held_unboxed o s ≡ with_unboxed_root (held_unboxed o v) o None v) (counted : u ≡ view_after (PutBlock o 1 0) s) (count_held : held_unboxed o u ≡ with_block (held_unboxed o s) 1 0) (keeps : KeepsUnwritten s u) (moves : MovesReferences o s u) where
+module _ (k : Shape) (o : ℕ) (table : Table) (v s u : View) (may : MayAdd k o (Some table) v) (untaken : (b : ℕ) → place_use b v.log ≢ use_taken) (shape : v.shape ≡ k) (possible : ∥ IsReachable v ∥₁) (h : HasRooted o 0 v s) (root_held : held_unboxed o s ≡ with_unboxed_root (held_unboxed o v) o None v) (counted : u ≡ view_after (PutBlock o 1 0) s) (count_held : held_unboxed o u ≡ with_block (held_unboxed o s) 1 0) (keeps : KeepsUnwritten s u) (moves : MovesReferences o s u) where
   puts : OnlyWritten o h.rooted u
   puts = written_then o h.rooted s u h.only (put_written o s u (put_by (PutBlock o 1 0) s u o tt counted keeps moves))
 
@@ -152,7 +152,7 @@ module _ (k : Shape) (o : ℕ) (table : Table) (v s u : View) (may : MayAdd k o 
       (subst (λ (n : ℕ). 0 < n) (sym (puts.work.left ∙ ap (λ (z : View). z.left) h.did)) may.left)
       (puts.work.owes ∙ (ap (λ (z : View). owes z.log) h.did ∙ may.owes))
       root_then
-      (λ b e. may.boxes.stored b (ap (λ (z : View). place_use b z.log) (sym h.did) ∙ puts.made.places b e))
+      (λ b e. untaken b (ap (λ (z : View). place_use b z.log) (sym h.did) ∙ puts.made.places b e))
 
   -- after the commit
   module _ (number g : ℕ) (snap : Snap) (c w : View) (made : c ≡ view_after (Commit (clear_of o) reply.Done number snap) u) (committed : Committed u c (clear_of o)) where

@@ -12,7 +12,7 @@ use Rattle.ft_model.specs.Worlds.{list_of}
 use Rattle.ft_layout.specs.declared.slot.Stored.{Stored}
 use Rattle.ft_layout.specs.declared.slot.Stored.TheVariants.{Plain}
 use Rattle.ft_layout.specs.Containers.{IsBlock}
-use Rattle.ft_layout.specs.Words.{IsStored}
+use Rattle.ft_layout.specs.Words.{IsStored, stored_kind, stored_payload}
 use Rattle.ft_layout.proofs.Powers.{slots_range}
 use Rattle.ft_trace.specs.declared.Shape.{Shape}
 use Rattle.ft_trace.specs.declared.View.{View}
@@ -32,7 +32,8 @@ use Rattle.ft_list.specs.declared.addition.Addition.TheVariants.{One, All}
 use Rattle.ft_list.specs.ListWrites.{MayWriteList}
 use Rattle.ft_list.specs.ListItemWrites.{WritesList, IsPutting, known_items, stored_item}
 use Rattle.ft_list.specs.Internal.Moving.{IsMoving}
-use Rattle.ft_list.specs.Internal.Additions.{count_in, first_in, with_added, KnowsItems, IsAddition, IsAdditionTo, GivesItems}
+use Rattle.ft_search.specs.Boxed.{KeepsOwn}
+use Rattle.ft_list.specs.Internal.Additions.{CanStore, count_in, first_in, with_added, KnowsItems, IsAddition, IsAdditionTo, GivesItems}
 use Rattle.ft_list.proofs.Lists.{list_content, list_known, list_rooted}
 use Rattle.ft_list.proofs.FinishedWrites.{with_count}
 use Rattle.ft_list.proofs.ItemWordsPut.{at_words, list_few, moving_ends, stored_none, stored_some, Changed}
@@ -111,38 +112,41 @@ knows_then k o v w same_words same_content lock writes list = record {
 -- ---- an addition
 
 pub added_on : (addition : Addition) (v w : View) → ((p : ℕ) → known_state p w ≡ known_state p v) → (values : List Value) → with_added addition w values ≡ with_added addition v values
-added_on (One place value) v w same values = refl
+added_on (One place value stored) v w same values = refl
 added_on (All other more) v w same values = ap (λ (x : ContainerState). values ++ list_of x.content) (same other)
 
 -- or of those whose items it adds
 pub news_on : (k : Shape) (count : ℕ) (addition : Addition) (v w : View) → ((p : ℕ) → KnowsItems k p v → known_state p w ≡ known_state p v) → IsAddition k count addition v → (values : List Value) → with_added addition w values ≡ with_added addition v values
-news_on k count (One place value) v w same is values = refl
+news_on k count (One place value stored) v w same is values = refl
 news_on k count (All other more) v w same is values = ap (λ (x : ContainerState). values ++ list_of x.content) (same other is.1)
 
 pub added_long : (k : Shape) (count : ℕ) (addition : Addition) (v : View) (values : List Value) → IsAddition k count addition v → count ≡ length values → length (with_added addition v values) ≡ count + count_in addition
-added_long k count (One place value) v values is long =
+added_long k count (One place value stored) v values is long =
     let low = is.0 in
     length-insert values place value (omega (arith, low, long)) ∙ ap (λ (n : ℕ). n + 1) (sym long)
 added_long k count (All other more) v values is long = length-append values (known_items other v) ∙ (λ d. sym long d + sym is.0 d)
 
 -- the first item that changes is one of the list's, or comes after them
 pub first_low : (k : Shape) (count : ℕ) (addition : Addition) (v : View) → IsAddition k count addition v → first_in addition count ≤ count
-first_low k count (One place value) v is = is.0
+first_low k count (One place value stored) v is = is.0
 first_low k count (All other more) v is = omega arith
 
 pub added_few : (k : Shape) (count : ℕ) (addition : Addition) (v : View) → v.shape ≡ k → ∥ IsReachable v ∥₁ → IsAddition k count addition v → count_in addition ≤ 65536
-added_few k count (One place value) v shape possible is = omega arith
+added_few k count (One place value stored) v shape possible is = omega arith
 added_few k count (All other more) v shape possible is = let f = knows_few k other v is.1 shape possible in let e = is.0 in omega (arith, e, f)
 
+-- what the pass may store it may store still, where it keeps its references
+pub store_kept : (value : Value) (stored : Stored) (v w : View) → KeepsOwn v w → CanStore value stored v → CanStore value stored w
+store_kept value stored v w keeps is =
+    let x = keeps (stored_kind stored) (stored_payload stored) is.own in
+    record { fits = is.fits; own = x.0; reads = record { fits = is.reads.fits; kind_is = x.1 ∙ is.reads.kind_is; payload_is = x.2 ∙ is.reads.payload_is } }
+
 -- where the pass knows the same of each list that it doesn't write
-pub addition_on : (k : Shape) (count : ℕ) (addition : Addition) (v w : View) → ((p : ℕ) → KnowsItems k p v → (held_unboxed p w ≡ held_unboxed p v) × (known_state p w ≡ known_state p v) × (has_lock p w.log ≡ has_lock p v.log) × (is_writing p w.log ≡ is_writing p v.log)) → IsAddition k count addition v → IsAddition k count addition w
-addition_on k count (One place value) v w same is = is
-addition_on k count (All other more) v w same is =
+pub addition_on : (k : Shape) (count : ℕ) (addition : Addition) (v w : View) → KeepsOwn v w → ((p : ℕ) → KnowsItems k p v → (held_unboxed p w ≡ held_unboxed p v) × (known_state p w ≡ known_state p v) × (has_lock p w.log ≡ has_lock p v.log) × (is_writing p w.log ≡ is_writing p v.log)) → IsAddition k count addition v → IsAddition k count addition w
+addition_on k count (One place value stored) v w keeps same is = (is.0, store_kept value stored v w keeps is.1)
+addition_on k count (All other more) v w keeps same is =
     let x = same other is.1 in
     (is.0 ∙ ap (λ (z : ContainerState). length (list_of z.content)) (sym x.1), knows_then k other v w x.0 x.1 x.2 x.3 is.1)
-
-pub addition_loaded : (k : Shape) (count : ℕ) (addition : Addition) (v w : View) → v.shape ≡ k → OnlyLoaded v w → IsAddition k count addition v → IsAddition k count addition w
-addition_loaded k count addition v w shape l is = addition_on k count addition v w (λ p list. (l.unboxed p (subst (λ (z : Shape). p < container_count z) (sym shape) list.container) list.locked, work_knows v w p l.work, l.work.pass.locks p, l.work.pass.writes p)) is
 
 -- ---- once the pass writes the list o, whose table has its items
 
@@ -181,9 +185,9 @@ module _ (k : Shape) (o : ℕ) (table : Table) (v s : View) (list : WritesList k
     | inr ne ↦ (let x = others m ne is in knows_gives k m s (knows_then k m v s x.0 (known_same m) x.1 x.2 is) shape possible o)
   ]
 
-  pub addition_begun : (count : ℕ) (addition : Addition) → IsAddition k count addition v → IsAdditionTo k o count addition s
-  addition_begun count (One place value) is = is
-  addition_begun count (All other more) is = (is.0 ∙ ap length (sym (items_same other)), gives_other other is.1)
+  pub addition_begun : (count : ℕ) (addition : Addition) → KeepsOwn v s → IsAddition k count addition v → IsAdditionTo k o count addition s
+  addition_begun count (One place value stored) keeps is = (is.0, store_kept value stored v s keeps is.1)
+  addition_begun count (All other more) keeps is = (is.0 ∙ ap length (sym (items_same other)), gives_other other is.1)
 
 pub gives_loaded : (k : Shape) (o m : ℕ) (v w : View) → v.shape ≡ k → OnlyLoaded v w → GivesItems k o m v → GivesItems k o m w
 gives_loaded k o m v w shape l gives =

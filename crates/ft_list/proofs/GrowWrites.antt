@@ -32,7 +32,7 @@ use Rattle.ft_list.specs.ListItemWrites.{WritesList, MayFinishItems}
 use Rattle.ft_list.specs.ListWrites.{Grows}
 use Rattle.ft_list.specs.Internal.NewListTables.{MayGrowList}
 use Rattle.ft_list.proofs.Commits.{may_finish}
-use Rattle.ft_list.proofs.WholeListWrites.{grows_on}
+use Rattle.ft_list.proofs.WholeListWrites.{grows_on, has_before}
 use Rattle.ft_list.proofs.ItemWordsPut.{Changed}
 use Rattle.ft_bank.specs.SameBoxes.{MovesReferences}
 
@@ -75,6 +75,10 @@ module _ (k : Shape) (o : ℕ) (old : Option Table) (table : Table) (v r u : Vie
   -- a place that the pass has taken then it had taken before
   pub taken_before_root : (b : ℕ) → place_use b u.log ≡ use_taken → place_use b v.log ≡ use_taken
   taken_before_root b e = ap (λ (z : View). place_use b z.log) (sym is) ∙ puts.made.places b e
+
+  -- what the bank may have then it may have had before
+  pub earlier_root : (stored : StoredWorld) → MayHave u stored → MayHave v stored
+  earlier_root stored has = has_before v u known_then shape_then locks_then stored has
 
   pub grow_wrote : (lc : ListCall) (called : Call) (number : ℕ) (before w : View) → called ≡ call.List o lc → is_changing_list lc ≡ true → OnlyFilled before v → held_words o v ≡ held_words o before → root_in (held_words o v) ≢ suc (table_id table) → KeepsUnwritten (view_after (StartWrite o f) v) r → MovesReferences o (view_after (StartWrite o f) v) r → root_in (held_words o u) ≡ suc (table_id table) → EndsWrite called reply.Done number u w → Wrote called reply.Done number before w
   grow_wrote lc called number before w names changing only same new keeps moves root ends =

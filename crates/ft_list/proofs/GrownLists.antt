@@ -31,7 +31,8 @@ use Rattle.ft_bank.proofs.TableAddresses.{class_is}
 use Rattle.ft_bank.specs.Whole.{OnlyLoaded}
 use Rattle.ft_table_calls.specs.Adding.{OnlyFilled}
 use Rattle.ft_list.specs.ListItemWrites.{known_items, stored_item}
-use Rattle.ft_list.specs.Internal.NewListTables.{KnowsList, MayGrowList, IsFilled}
+use Rattle.ft_list.specs.Internal.NewListTables.{KnowsList, MayAdd, MayGrowList, IsFilled}
+use Rattle.ft_list.specs.ListWrites.{MayBeginList}
 use Rattle.ft_list.proofs.Cares.{table_class}
 use Rattle.ft_list.proofs.Filling.{filled_sound}
 use Rattle.ft_list.proofs.Lists.{list_content, list_known, list_rooted, list_shut}
@@ -73,6 +74,20 @@ grow_filled k o old table v w shape only may = record {
   settled = (stays_settled_same v w only.made).settled may.settled;
   few = few_same v w only.references may.few;
   left = subst (λ (n : ℕ). 0 < n) (sym only.work.left) may.left;
+}
+
+-- who may add may begin a write
+pub add_begins : (k : Shape) (o : ℕ) (old : Option Table) (v : View) → MayAdd k o old v → MayBeginList k o v
+add_begins k o old v may = record {
+  container = may.list.container;
+  kind = may.list.kind;
+  locked = may.list.locked;
+  even = may.even;
+  stands = may.list.stands;
+  owes = may.owes;
+  settled = may.settled;
+  few = may.few;
+  left = may.left;
 }
 
 -- ---- the root

@@ -157,6 +157,19 @@ holds_loaded b value v u possible l h =
 
 -- ---- the reference is the list's, or is dropped
 
+-- a pass drops the one reference that it held
+pub done_alone : (k : Shape) (b : Ref) (u w : View) → ((c : ℕ) → references_held u.shape c u.log ≡ cond (eqb c (box_id b)) 1 0) → ((c : ℕ) → place_use c u.log ≡ use_taken → c ≡ box_id b) → w.shape ≡ k → IsSettled w.log → ((o : ℕ) → is_writing o u.log ≡ false) → HoldsOneLess b u w → TakesNoPlace u w → LeavesNoTaken b u w → IsDoneWithBoxes k w.log
+done_alone k b u w one_ taken_ then_ settled idle less places gone =
+    let none : (c : ℕ) → references_held w.shape c w.log ≡ 0 = λ c.
+    let l = less c in
+    let one = one_ c in
+    omega (arith, l, one) in
+    record {
+      settled = settled;
+      none = λ c. ap (λ (z : Shape). references_held z c w.log) (sym then_) ∙ none c;
+      stored = λ c taken. gone idle (none (box_id b)) (subst (λ (n : ℕ). place_use n w.log ≡ use_taken) (taken_ c (places c taken)) taken);
+    }
+
 module _ (k : Shape) (b : Ref) (value : Value) (u w : View) (shape : u.shape ≡ k) (h : HoldsValue b value u) where
   held_so : (c : ℕ) → references_held k c u.log ≡ cond (eqb c (box_id b)) 1 0
   held_so c = ap (λ (z : Shape). references_held z c u.log) (sym shape) ∙ h.one c
@@ -174,16 +187,7 @@ module _ (k : Shape) (b : Ref) (value : Value) (u w : View) (shape : u.shape ≡
   }
 
   pub done_dropped : w.shape ≡ k → IsSettled w.log → ((o : ℕ) → is_writing o u.log ≡ false) → HoldsOneLess b u w → TakesNoPlace u w → LeavesNoTaken b u w → IsDoneWithBoxes k w.log
-  done_dropped then_ settled idle less places gone =
-      let none : (c : ℕ) → references_held w.shape c w.log ≡ 0 = λ c.
-      let l = less c in
-      let one = h.one c in
-      omega (arith, l, one) in
-      record {
-        settled = settled;
-        none = λ c. ap (λ (z : Shape). references_held z c w.log) (sym then_) ∙ none c;
-        stored = λ c taken. gone idle (none (box_id b)) (subst (λ (n : ℕ). place_use n w.log ≡ use_taken) (h.taken c (places c taken)) taken);
-      }
+  done_dropped = done_alone k b u w h.one h.taken
 
 -- the call changes the list as it would have before
 pub changes_on : (v u : View) → SameWork v u → (o : ℕ) (lc : ListCall) (said : Reply) (values news : List Value) → Changes o lc said values news v → Changes o lc said values news u

@@ -175,7 +175,7 @@ get_held v u o index found n loaded left low mine is =
     let right : (stored : StoredWorld) → MayHave (view_after (ReadCounter n) u) stored → IsReplied called (item_reply found) (reply_in stored called) = λ stored may.
     let kept : state_at stored o ≡ known_state o v = may.agrees o (subst (λ (k : Shape). o < container_count k) (sym loaded.work.pass.shape) low) (loaded.work.pass.locks o ∙ mine) ∙ work_knows v u o loaded.work in
     plain.replied (reply_in stored called) (sym (get_replied stored o index found (is ∙ ap (λ (z : ContainerState). item_named (list_of z.content) index) (sym kept)))) in
-    held_shown v u n loaded left called (item_reply found) plain.reads plain.cursor right (λ stored. plain.cause stored (ReadCounter n ∷ u.log) n)
+    held_shown v u n loaded left called (item_reply found) plain.reads plain.cursor right (λ stored. plain.cause stored (view_after (ReadCounter n) u) n)
 
 -- what such a pass reads
 pub reads_held : (k : Shape) (o : ℕ) (index : ℤ) (found : Option Value) (p q : Pass) → Reads k o (IsItemNamed k index found) p q → (view p).shape ≡ k → o < container_count k → kind_in (view p).shape.starts o ≡ kind.List → has_lock o (view p).log ≡ true → Represents k.texts (held_unboxed o (view p)) (known_state o (view p)) → found ≡ item_named (list_of (known_state o (view p)).content) index

@@ -6,6 +6,7 @@ pub mod PutItems
 pub mod FinishedWrites
 pub mod Commits
 pub mod ItemWordsPut
+pub mod CarriedWords
 pub mod Lists
 pub mod NamedItems
 pub mod WholeListWrites
@@ -24,6 +25,7 @@ pub mod Both
 pub mod Filling
 pub mod Wanted
 pub mod TakenNames
+pub mod AddedStored
 pub mod GrownLists
 pub mod Copied
 pub mod Rooted
@@ -34,3 +36,4 @@ pub mod Extending
 pub mod Undisturbed
 pub mod ListTries
 pub mod HeldWrites
+pub mod AddedHeld

@@ -1,6 +1,6 @@
 -- Calls under locks: what a pass in the midst of a call may do with a list, and that it is in the midst of its call still
 -- once it has.
-use Rattle.std.proofs.Common.{◌≡◌, ℕ, ◌<◌, ◌≤◌, Bool, true, false, List, ◌∷◌, ◌++◌, Some, None, refl, sym, ap, ◌∙◌, subst, inr}
+use Rattle.std.proofs.Common.{◌≡◌, ℕ, ◌<◌, ◌≤◌, Bool, true, false, List, ◌++◌, Some, None, refl, sym, ap, ◌∙◌, subst, inr}
 use Rattle.std.specs.Prelude.{◌&&◌, not, if◌then◌else◌}
 use Rattle.std.specs.Option.{unwrap_or}
 use Rattle.ft_model.specs.declared.call.Call.{Call}
@@ -133,7 +133,7 @@ module _ (called : Call) (said : Reply) (plain : IsPlain called said) (v u : Vie
       let had = has_before v (view_after (ReadCounter n) u) (λ p. work_knows v (view_after (ReadCounter n) u) p both.work) both.work.pass.shape (λ p mine. both.work.pass.locks p ∙ mine) in
       held_shown v u n loaded left called said plain.reads plain.cursor
       (λ stored has. plain.replied (reply_in stored called) (sym (replied stored (had stored has))))
-      (λ stored. plain.cause stored (ReadCounter n ∷ u.log) n)
+      (λ stored. plain.cause stored (view_after (ReadCounter n) u) n)
 
   pub read_made : (z : View) (given reply : Reply) (stamp : Stamp) (part : List Act) → u.log ≡ part ++ v.log → z ≡ view_after (Answer called given stamp.number) (view_after (ReadCounter stamp.number) u) → given ≡ said → reply ≡ given → stamp.wrote ≡ false → v.learnt ≤ shown v.log → ∥ IsReachable z ∥₁ → MadeAs called reply stamp v z
   read_made z given reply stamp part own did is same wrote settled possible =

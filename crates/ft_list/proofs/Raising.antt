@@ -18,7 +18,6 @@ use Rattle.ft_model.specs.Calls.{is_changing_list, cursor_of_list}
 use Rattle.ft_model.specs.Lists.{index_in, index_of}
 use Rattle.ft_model.specs.TableUses.{StoredWorld}
 use Rattle.ft_model.specs.Worlds.{no_hands}
-use Rattle.ft_trace.specs.declared.Act.{Act}
 use Rattle.ft_trace.specs.declared.Act.TheVariants.{ReadCounter, Answer}
 use Rattle.ft_trace.specs.declared.View.{View}
 use Rattle.ft_trace.specs.Acts.{has_lock, view_after, shown}
@@ -42,10 +41,10 @@ pub raised : (said : Reply) → (said ≡ reply.Raised raise.NoIndex) ⊎ (said 
 raised said (inl e) = ap is_raised e
 raised said (inr e) = ap is_raised e
 
-caused : (stored : StoredWorld) (log : List Act) (o : ℕ) (lc : ListCall) (said : Reply) (n : ℕ) (values : List Value) → Raises o lc said values → HasCause stored log (call.List o lc) said n
-caused stored log o lc said n values r = ⊎_elim
-    (λ (e : said ≡ reply.Raised raise.NoIndex). subst (λ (z : Reply). HasCause stored log (call.List o lc) z n) (sym e) (r.caps stored.world))
-    (λ (e : said ≡ reply.Raised raise.NoValue). subst (λ (z : Reply). HasCause stored log (call.List o lc) z n) (sym e) (r.caps stored.world)) r.raises
+caused : (stored : StoredWorld) (w : View) (o : ℕ) (lc : ListCall) (said : Reply) (n : ℕ) (values : List Value) → Raises o lc said values → HasCause stored w (call.List o lc) said n
+caused stored w o lc said n values r = ⊎_elim
+    (λ (e : said ≡ reply.Raised raise.NoIndex). subst (λ (z : Reply). HasCause stored w (call.List o lc) z n) (sym e) (r.caps stored.world))
+    (λ (e : said ≡ reply.Raised raise.NoValue). subst (λ (z : Reply). HasCause stored w (call.List o lc) z n) (sym e) (r.caps stored.world)) r.raises
 
 -- an `iter` raises nothing, and no reversed one
 asks_none : (lc : ListCall) (o : ℕ) (said : Reply) (values : List Value) → Raises o lc said values → cursor_of_list lc ≡ None
@@ -67,7 +66,7 @@ raise_shown v w o lc said values n r is left low mine is_list =
     (asks_none lc o said values r)
     (λ stored has. (
       inr (sym (ap (λ (l : List Value). (answer_list stored.world no_hands o l lc).reply) (list_is o lc said values values (view_after (ReadCounter n) v) low mine is_list stored has) ∙ ap (λ (z : Given). z.reply) (r.answered stored.world))),
-      caused stored (ReadCounter n ∷ v.log) o lc said n values r,
+      caused stored (view_after (ReadCounter n) v) o lc said n values r,
     )))
 
 pub raise_answered : (v w z : View) (called : Call) (said : Reply) (n : ℕ) → w ≡ view_after (ReadCounter n) v → z ≡ view_after (Answer called said n) w → v.learnt ≤ shown v.log → ∥ IsReachable z ∥₁ → Answered called said n v z

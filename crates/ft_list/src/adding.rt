@@ -1,6 +1,6 @@
 //! Calls that add items to a list: under the locks, and their tries. A list whose table has no room for them, or
 //! that has none, gets another one.
-ghost use Rattle.std.specs.Prelude.{◌≡◌, ◌+◌, ◌<◌, ◌≤◌, nat_lt, false, length, Option, Some, None, IfSome};
+ghost use Rattle.std.specs.Prelude.{◌≡◌, ◌≢◌, ℕ, ◌+◌, ◌<◌, ◌≤◌, nat_lt, false, length, Option, Some, None, IfSome};
 ghost use Rattle.ft_model.specs.declared.call.Call.TheVariants as call;
 ghost use Rattle.ft_model.specs.declared.call.ListCall.{ListCall};
 ghost use Rattle.ft_model.specs.declared.call.ListCall.TheVariants as list;
@@ -14,12 +14,14 @@ ghost use Rattle.ft_bank.specs.Passes.{shape_of, view, IsPassOf};
 ghost use Rattle.ft_bank.specs.PassSections.{stack_of};
 ghost use Rattle.ft_bank.specs.Whole.{OnlyLoaded};
 ghost use Rattle.ft_section.specs.declared.answers.Objects.TheVariants.{One};
-ghost use Rattle.ft_table_calls.specs.Adding.{IsAdded, KeepsCursors};
+ghost use Rattle.ft_table_calls.specs.Adding.{KeepsCursors};
 ghost use Rattle.ft_list.specs.ListItemWrites.{known_items};
 ghost use Rattle.ft_list.specs.ListWrites.{MayWriteList, Adds};
 ghost use Rattle.ft_list.specs.ListGrowth.{AddsItems};
+ghost use Rattle.ft_list.specs.Internal.Carrying.{HoldsSpare};
 ghost use Rattle.ft_list.specs.Internal.NewListTables.{KnowsList, MayAdd, list_use_of};
-ghost use Rattle.ft_list.specs.Internal.Additions.{count_in, with_added, IsAddition};
+ghost use Rattle.ft_list.specs.HeldValues.{IsAddedStoring};
+ghost use Rattle.ft_list.specs.Internal.Additions.{count_in, stored_in, with_added, HasNamed, IsAddition, IsMade, StoresAddition};
 
 use crate::addition::{Addition, added_count};
 use crate::bare::write_nothing;
@@ -27,13 +29,14 @@ use crate::growth::add_in;
 use crate::locked::{count_of, table_at_root, value_fits};
 use crate::writes::add_items;
 use ft_bank::{Bank, Pass, Table, Took};
+use ft_layout::Stored;
 use ft_model::{Call, KeptTable, ListCall, MOST_ITEMS, Reply, Value, taken_by_list};
 use ft_qsbr::take;
 use ft_section::{Object, Stamp};
 use ft_table_calls::{Added, answer_no_table, answer_over, retire_old};
 
 /// The class of the table that a list takes for that many items, which has this one or none.
-fn class_wanted(old: Option<Table>, count: u64) -> Option<u32>
+pub(crate) fn class_wanted(old: Option<Table>, count: u64) -> Option<u32>
     requires table { (t : Table) → old ≡ Some t → IsClass t.class }
     ensures class { result ≡ list_takes (list_use_of old) count }
     ensures range { IfSome result (λ class. IsClass class) }
@@ -70,7 +73,9 @@ fn add_in_room(
 ) -> Added
     requires pass { IsPassOf bank.now pass.old }
     requires may { MayAdd (shape_of bank.now) l old (view pass.old) }
+    requires spare { HoldsSpare (shape_of bank.now) (view pass.old) }
     requires addition { IsAddition (shape_of bank.now) count addition (view pass.old) }
+    requires stores { StoresAddition addition called.now (view pass.old) }
     requires count { count ≡ length (known_items l (view pass.old)) }
     requires few { count + count_in addition ≤ most_items }
     requires call { (lc : ListCall) × (called.now ≡ call.List l lc) × Adds l lc (known_items l (view pass.old))
@@ -78,7 +83,9 @@ fn add_in_room(
     requires room { list_takes (list_use_of old) (count + count_in addition) ≡ None }
     ensures pass { IsPassOf bank.now pass.new }
     ensures stack { stack_of pass.new ≡ stack_of pass.old }
-    ensures added { IsAdded (shape_of bank.now) None false called.now reply.Done (view pass.old) (view pass.new) result }
+    ensures added { IsAddedStoring (shape_of bank.now) None false (stored_in addition) called.now (view pass.old)
+        (view pass.new) result }
+    ensures named { IsMade result → HasNamed l addition (view pass.old) (view pass.new) }
 {
     match old {
         Some(table) => {
@@ -113,7 +120,9 @@ fn add_in_taken(
 ) -> Added
     requires pass { IsPassOf bank.now pass.old }
     requires may { MayAdd (shape_of bank.now) l old (view pass.old) }
+    requires spare { HoldsSpare (shape_of bank.now) (view pass.old) }
     requires addition { IsAddition (shape_of bank.now) count addition (view pass.old) }
+    requires stores { StoresAddition addition called.now (view pass.old) }
     requires count { count ≡ length (known_items l (view pass.old)) }
     requires few { count + count_in addition ≤ most_items }
     requires call { (lc : ListCall) × (called.now ≡ call.List l lc) × Adds l lc (known_items l (view pass.old))
@@ -122,8 +131,9 @@ fn add_in_taken(
     requires takes { list_takes (list_use_of old) (count + count_in addition) ≡ Some class }
     ensures pass { IsPassOf bank.now pass.new }
     ensures stack { stack_of pass.new ≡ stack_of pass.old }
-    ensures added { IsAdded (shape_of bank.now) (Some class) false called.now reply.Done (view pass.old) (view pass.new)
-        result }
+    ensures added { IsAddedStoring (shape_of bank.now) (Some class) false (stored_in addition) called.now (view pass.old)
+        (view pass.new) result }
+    ensures named { IsMade result → HasNamed l addition (view pass.old) (view pass.new) }
 {
     match take(bank, pass, class) {
         Took::Taken(table) => {
@@ -141,7 +151,7 @@ fn add_in_taken(
 
 /// Adds to a list of that many items, as the write of this call.
 #[inline(always)]
-fn add_to(
+pub(crate) fn add_to(
     bank: &Bank,
     pass: &mut Pass,
     l: Object,
@@ -152,14 +162,17 @@ fn add_to(
 ) -> Added
     requires pass { IsPassOf bank.now pass.old }
     requires may { MayAdd (shape_of bank.now) l old (view pass.old) }
+    requires spare { HoldsSpare (shape_of bank.now) (view pass.old) }
     requires addition { IsAddition (shape_of bank.now) count addition (view pass.old) }
+    requires stores { StoresAddition addition called.now (view pass.old) }
     requires count { count ≡ length (known_items l (view pass.old)) }
     requires call { (lc : ListCall) × (called.now ≡ call.List l lc) × Adds l lc (known_items l (view pass.old))
         (with_added addition (view pass.old) (known_items l (view pass.old))) (view pass.old) }
     ensures pass { IsPassOf bank.now pass.new }
     ensures stack { stack_of pass.new ≡ stack_of pass.old }
-    ensures added { IsAdded (shape_of bank.now) (list_takes (list_use_of old) (count + count_in addition))
-        (nat_lt most_items (count + count_in addition)) called.now reply.Done (view pass.old) (view pass.new) result }
+    ensures added { IsAddedStoring (shape_of bank.now) (list_takes (list_use_of old) (count + count_in addition))
+        (nat_lt most_items (count + count_in addition)) (stored_in addition) called.now (view pass.old) (view pass.new) result }
+    ensures named { IsMade result → HasNamed l addition (view pass.old) (view pass.new) }
 {
     let total = count + added_count(addition);
     if total > MOST_ITEMS as u64 {
@@ -199,13 +212,14 @@ pub fn append_by(bank: &Bank, pass: &mut Pass, l: Object, value: Value) -> Added
     let addition = Addition::One {
         place: count,
         value,
+        stored: Stored::Plain(value),
     };
     add_to(bank, pass, l, old, addition, count, &called)
 }
 
 /// The place before which an index inserts among that many items: a negative one counts from the end, and one
 /// that is then outside is clamped (Python manual, Sequence Types, note 4).
-fn clamped(count: u64, index: i64) -> u64
+pub(crate) fn clamped(count: u64, index: i64) -> u64
     ensures place { result ≡ clamped_in count index }
     ensures within { result ≤ count }
 {
@@ -239,7 +253,11 @@ pub fn insert_by(bank: &Bank, pass: &mut Pass, l: Object, index: i64, value: Val
     let count = count_of(bank, pass, l);
     let old = root_table(bank, pass, l);
     let place = clamped(count, index);
-    let addition = Addition::One { place, value };
+    let addition = Addition::One {
+        place,
+        value,
+        stored: Stored::Plain(value),
+    };
     add_to(bank, pass, l, old, addition, count, &called)
 }
 

@@ -15,7 +15,8 @@ ghost use Rattle.ft_bank.specs.Whole.{OnlyLoaded, OnlyWritten};
 ghost use Rattle.ft_list.specs.ListItemWrites.{WritesList, IsPutting, known_items, stored_item};
 ghost use Rattle.ft_list.specs.Internal.Carrying.{HoldsSpare};
 ghost use Rattle.ft_list.specs.Internal.Moving.{IsMoving};
-ghost use Rattle.ft_list.specs.Internal.Additions.{count_in, first_in, with_added, GivesItems, IsAdditionTo};
+ghost use Rattle.ft_list.specs.HeldValues.{GivesReference};
+ghost use Rattle.ft_list.specs.Internal.Additions.{count_in, first_in, stored_in, with_added, GivesItems, IsAdditionTo, NamesAdded};
 
 use crate::items::put_item;
 use crate::locked::table_at_root;
@@ -28,10 +29,17 @@ use ft_model::Value;
 /// What a call adds to a list.
 #[derive(Clone, Copy)]
 pub(crate) enum Addition {
-    /// A value, before the item at a place.
-    One { place: u64, value: Value },
+    /// A value, before the item at a place: the value itself is stored, or the box in which it stands.
+    One {
+        place: u64,
+        value: Value,
+        stored: Stored,
+    },
     /// All items of another list or of the same one, of which there are that many, after the last item.
-    All { other: u32, count: u64 },
+    All {
+        other: u32,
+        count: u64,
+    },
 }
 
 /// How many items are added.
@@ -162,18 +170,23 @@ pub(crate) fn put_added(
     ensures stack { stack_of pass.new ≡ stack_of pass.old }
     ensures list { WritesList (shape_of bank.now) o table (view pass.new) }
     ensures only { OnlyWritten o (view pass.old) (view pass.new) }
-    ensures references { SameReferences (view pass.old) (view pass.new) }
+    ensures references { GivesReference (shape_of bank.now) (stored_in addition) (view pass.old) (view pass.new) }
+    ensures named { NamesAdded o (known_items o (view pass.old)) addition (view pass.new) }
     ensures block { (held_unboxed o (view pass.new)).block ≡ (held_unboxed o (view pass.old)).block }
     ensures moved { IsMoving (class_of (table_id table)) (known_items o (view pass.old))
         (with_added addition (view pass.old) (known_items o (view pass.old))) (first_in addition count)
         (count + count_in addition) (count + count_in addition) (held_unboxed o (view pass.new)).table }
 {
     match addition {
-        Addition::One { place, value } => {
+        Addition::One {
+            place,
+            value,
+            stored,
+        } => {
+            let _ = value;
             if place == count {
-                put_last(bank, pass, o, table, count, value)
+                put_last(bank, pass, o, table, count, stored)
             } else {
-                let stored = Stored::Plain(value);
                 let given = (stored_kind_of(stored), stored_payload_of(stored));
                 shift_up(bank, pass, o, table, place, count, given)
             }

@@ -1,5 +1,6 @@
 //! Whole writes of lists that have no table, and so no item: no word of theirs is put but the version.
-ghost use Rattle.std.specs.Prelude.{◌≡◌};
+ghost use Rattle.std.specs.Prelude.{◌≡◌, ◌≢◌, ℕ};
+ghost use Rattle.ft_trace.specs.Boxes.{place_use, use_taken};
 ghost use Rattle.ft_trace.specs.Holds.{held_unboxed, known_state};
 ghost use Rattle.ft_trace.specs.Pictures.{root_in};
 ghost use Rattle.ft_bank.specs.Passes.{shape_of, view, IsPassOf};
@@ -7,7 +8,7 @@ ghost use Rattle.ft_bank.specs.PassSections.{stack_of};
 ghost use Rattle.ft_bank.specs.SameBoxes.{SameReferences};
 ghost use Rattle.ft_bank.specs.Whole.{Wrote};
 ghost use Rattle.ft_search.specs.OneEntryWrites.{Leaves};
-ghost use Rattle.ft_list.specs.ListWrites.{MayWriteList};
+ghost use Rattle.ft_list.specs.ListWrites.{MayBeginList};
 
 use ft_bank::{Bank, Pass};
 use ft_model::{Call, Reply};
@@ -22,7 +23,8 @@ pub(crate) fn write_nothing(
     said: &Reply,
 ) -> u64
     requires pass { IsPassOf bank.now pass.old }
-    requires may { MayWriteList (shape_of bank.now) o (view pass.old) }
+    requires may { MayBeginList (shape_of bank.now) o (view pass.old) }
+    requires untaken { (b : ℕ) → place_use b (view pass.old).log ≢ use_taken }
     requires bare { root_in (held_unboxed o (view pass.old)) ≡ 0 }
     requires leaves { Leaves o called.now said.now (known_state o (view pass.old)) (view pass.old) }
     ensures pass { IsPassOf bank.now pass.new }

@@ -1,10 +1,11 @@
 //! `clear` of a list, under its lock and as a try. Its root names no table before the counter is raised, and the
 //! table that it had is retired.
-ghost use Rattle.std.specs.Prelude.{◌≡◌, ◌<◌, true, false, Some, None};
+ghost use Rattle.std.specs.Prelude.{◌≡◌, ◌≢◌, ℕ, ◌<◌, true, false, Some, None};
 ghost use Rattle.ft_model.specs.declared.call.Call.TheVariants as call;
 ghost use Rattle.ft_model.specs.declared.call.ListCall.TheVariants as list;
 ghost use Rattle.ft_model.specs.declared.reply.Reply.TheVariants as reply;
 ghost use Rattle.ft_trace.specs.Acts.{flight, used};
+ghost use Rattle.ft_trace.specs.Boxes.{place_use, use_taken};
 ghost use Rattle.ft_trace.specs.Holds.{held_unboxed};
 ghost use Rattle.ft_trace.specs.Pictures.{root_in};
 ghost use Rattle.ft_bank.specs.Passes.{shape_of, view, IsPassOf};
@@ -40,6 +41,7 @@ fn clear_call(l: Object) -> Call
 fn clear_table(bank: &Bank, pass: &mut Pass, l: Object, table: Table) -> u64
     requires pass { IsPassOf bank.now pass.old }
     requires may { MayAdd (shape_of bank.now) l (Some table) (view pass.old) }
+    requires untaken { (b : ℕ) → place_use b (view pass.old).log ≢ use_taken }
     ensures pass { IsPassOf bank.now pass.new }
     ensures stack { stack_of pass.new ≡ stack_of pass.old }
     ensures wrote { Wrote (call.List l list.Clear) reply.Done result (view pass.old) (view pass.new) }
@@ -58,6 +60,7 @@ fn clear_table(bank: &Bank, pass: &mut Pass, l: Object, table: Table) -> u64
 fn clear_list(bank: &Bank, pass: &mut Pass, l: Object, old: Option<Table>) -> u64
     requires pass { IsPassOf bank.now pass.old }
     requires may { MayAdd (shape_of bank.now) l old (view pass.old) }
+    requires untaken { (b : ℕ) → place_use b (view pass.old).log ≢ use_taken }
     ensures pass { IsPassOf bank.now pass.new }
     ensures stack { stack_of pass.new ≡ stack_of pass.old }
     ensures wrote { Wrote (call.List l list.Clear) reply.Done result (view pass.old) (view pass.new) }

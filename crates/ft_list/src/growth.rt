@@ -24,7 +24,8 @@ ghost use Rattle.ft_list.specs.ListItemWrites.{WritesList, IsPutting, known_item
 ghost use Rattle.ft_list.specs.ListWrites.{Grows};
 ghost use Rattle.ft_list.specs.Internal.Carrying.{HoldsSpare};
 ghost use Rattle.ft_list.specs.Internal.NewListTables.{CopiesItem, HasRooted, IsCopied, KnowsList, MayGrowList, with_new_item};
-ghost use Rattle.ft_list.specs.Internal.Additions.{count_in, with_added, IsAddition};
+ghost use Rattle.ft_list.specs.HeldValues.{GivesReference};
+ghost use Rattle.ft_list.specs.Internal.Additions.{count_in, stored_in, with_added, IsAddition, NamesAdded, StoresAddition};
 
 use crate::addition::{Addition, added_count, first_place, put_added};
 use crate::items::{finish, word_at};
@@ -159,8 +160,8 @@ pub(crate) fn add_in(
     requires other { root_in (held_unboxed o (view pass.old)) ≢ suc (table_id table) }
     requires wider { (t : Table) → old ≡ Some t → slots (class_of (table_id t)) ≤ slots (class_of (table_id table)) }
     requires spare { HoldsSpare (shape_of bank.now) (view pass.old) }
-    requires untaken { (b : ℕ) → place_use b (view pass.old).log ≢ use_taken }
     requires addition { IsAddition (shape_of bank.now) count addition (view pass.old) }
+    requires stores { StoresAddition addition called.now (view pass.old) }
     requires count { count ≡ length (known_items o (view pass.old)) }
     requires room { count + count_in addition ≤ slots (class_of (table_id table)) }
     requires call { (lc : ListCall) × (called.now ≡ call.List o lc) × Grows o lc (known_items o (view pass.old))
@@ -169,7 +170,9 @@ pub(crate) fn add_in(
     ensures stack { stack_of pass.new ≡ stack_of pass.old }
     ensures wrote { Wrote called.now reply.Done result (view pass.old) (view pass.new) }
     ensures root { root_in (held_unboxed o (view pass.new)) ≡ suc (table_id table) }
-    ensures references { SameReferences (view pass.old) (view pass.new) }
+    ensures references { GivesReference (shape_of bank.now) (stored_in addition) (view pass.old) (view pass.new) }
+    ensures named { NamesAdded o (known_items o (view pass.old)) addition (view pass.new) }
+    ensures stored { (b : ℕ) → place_use b (view pass.new).log ≢ use_taken }
 {
     fill(bank, pass, o, old, table);
     begin_in(bank, pass, o, old, table);

@@ -18,7 +18,7 @@ ghost use Rattle.ft_bank.specs.TableNames.{table_id, IsPlaceOf};
 ghost use Rattle.ft_bank.specs.SameBoxes.{SameReferences};
 ghost use Rattle.ft_bank.specs.Whole.{OnlyLoaded, OnlyPut, OnlyWritten, EndsWrite};
 ghost use Rattle.ft_search.specs.Boxed.{KeepsOwn};
-ghost use Rattle.ft_list.specs.Internal.Carrying.{HoldsFewBut, KeepsItemValues};
+ghost use Rattle.ft_list.specs.Internal.Carrying.{CarriesValue, HoldsFewBut, KeepsItemValues, KeepsOtherItems};
 ghost use Rattle.ft_list.specs.ListItemWrites.{WritesList, PutsItem, ClosesItem, IsChanging, MayFinishItems, ReadsAs, known_items, stored_words, with_word};
 
 use crate::values::held_value;
@@ -75,6 +75,7 @@ fn open_item(bank: &Bank, pass: &mut Pass, o: u32, table: Table, start: u64, pla
     ensures keeps { KeepsOwn (view pass.old) (view pass.new) }
     ensures words { (version : ℕ) × (version % 2 ≡ 1)
         × (held_unboxed o (view pass.new) ≡ with_word (held_unboxed o (view pass.old)) place 0 version) }
+    ensures values { KeepsItemValues o (view pass.old) (view pass.new) }
 {
     let version = read_version(bank, pass, o, table, start, place);
     if version % 2 == 0 {
@@ -169,6 +170,8 @@ pub(crate) fn carry_item(
     ensures references { (b : ℕ) →
         references_held (shape_of bank.now) b (view pass.new).log + names_box b value.0 value.1
         ≡ references_held (shape_of bank.now) b (view pass.old).log + names_box b result.0 result.1 }
+    ensures carries { CarriesValue o place value result (view pass.old) (view pass.new) }
+    ensures others { KeepsOtherItems o place (view pass.old) (view pass.new) }
 {
     let start = bank.cell_of(table);
     let (kind, payload) = read_value(bank, pass, value.0, value.1);
@@ -191,6 +194,7 @@ pub(crate) fn let_go(bank: &Bank, pass: &mut Pass, o: u32, table: Table, value: 
     ensures list { WritesList (shape_of bank.now) o table (view pass.new) }
     ensures only { OnlyWritten o (view pass.old) (view pass.new) }
     ensures held { held_unboxed o (view pass.new) ≡ held_unboxed o (view pass.old) }
+    ensures words { held_words o (view pass.new) ≡ held_words o (view pass.old) }
     ensures references { (b : ℕ) →
         references_held (shape_of bank.now) b (view pass.new).log + names_box b value.0 value.1
         ≡ references_held (shape_of bank.now) b (view pass.old).log }

@@ -35,7 +35,7 @@ mod values;
 mod writes;
 
 pub use crate::adding::{append_by, extend_by, insert_by};
-pub use crate::boxing::set_held;
+pub use crate::boxing::{append_held, insert_held, set_held};
 pub use crate::clearing::clear_by;
 pub use crate::copies::copy_items;
 pub use crate::floors::floor_items_stand;

@@ -23,12 +23,15 @@ ghost use Rattle.ft_bank.specs.PassSections.{stack_of};
 ghost use Rattle.ft_bank.specs.TableNames.{table_id, IsPlaceOf};
 ghost use Rattle.ft_bank.specs.SameBoxes.{SameReferences};
 ghost use Rattle.ft_bank.specs.Whole.{OnlyLoaded, OnlyWritten, Wrote};
-ghost use Rattle.ft_list.specs.ListItemWrites.{ReadsAs, WritesList, IsPutting, known_items, stored_item};
+ghost use Rattle.ft_layout.specs.declared.slot.Stored.{Stored};
+ghost use Rattle.ft_trace.specs.ItemWords.{said_at};
+ghost use Rattle.ft_list.specs.HeldValues.{GivesReference, HasWordsFrom};
+ghost use Rattle.ft_list.specs.ListItemWrites.{ReadsAs, WritesList, IsPutting, known_items, stored_item, stored_words};
 ghost use Rattle.ft_list.specs.Internal.Carrying.{HoldsFewBut, HoldsSpare};
 ghost use Rattle.ft_list.specs.Internal.Moving.{IsMoving};
 ghost use Rattle.ft_list.specs.Internal.StoredBoxes.{StoresBox};
 ghost use Rattle.ft_list.specs.ListWrites.{MayBeginList, MayWriteList, Changes};
-ghost use Rattle.ft_list.specs.Internal.Additions.{count_in, with_added, IsAddition};
+ghost use Rattle.ft_list.specs.Internal.Additions.{count_in, stored_in, with_added, IsAddition, NamesAdded, StoresAddition};
 ghost use Rattle.ft_search.specs.OneEntryWrites.{HasTable};
 
 use crate::addition::{Addition, added_count, first_place, put_added};
@@ -136,6 +139,11 @@ pub(crate) fn shift_up(
         IsPutting (class_of (table_id table)) values place (count + 1) (stored_item values) (held_unboxed o (view pass.old)).table →
         IsMoving (class_of (table_id table)) values (insert values place value) place (count + 1) (count + 1)
         (held_unboxed o (view pass.new)).table }
+    ensures named { (value : Value) →
+        IsStored (kind_read (view pass.old) given.0 given.1) (payload_read (view pass.old) given.0 given.1) (Plain value) →
+        (values : List Value) → length values ≡ count →
+        IsPutting (class_of (table_id table)) values place (count + 1) (stored_item values) (held_unboxed o (view pass.old)).table →
+        HasWordsFrom o values place value given.0 given.1 (view pass.new) }
 {
     let mut carried = given;
     for at in place..count + 1 {
@@ -144,27 +152,42 @@ pub(crate) fn shift_up(
     let_go(bank, pass, o, table, carried);
 }
 
-/// Puts a value after the last item, of that many.
+/// Has the item after the last one, of that many, store this: a value in place, or in a box for which the pass holds a
+/// reference and whose value it knows; that reference is the list's then.
 #[inline(always)]
-pub(crate) fn put_last(bank: &Bank, pass: &mut Pass, o: u32, table: Table, count: u64, value: Value)
+pub(crate) fn put_last(
+    bank: &Bank,
+    pass: &mut Pass,
+    o: u32,
+    table: Table,
+    count: u64,
+    stored: Stored,
+)
     requires pass { IsPassOf bank.now pass.old }
     requires list { WritesList (shape_of bank.now) o table (view pass.old) }
     requires early { has_committed o (view pass.old).log ≡ false }
     requires room { count < slots (class_of (table_id table)) }
-    requires value { FitsStored (Plain value) }
+    requires fits { FitsStored stored }
+    requires own { HasReferenceFor (view pass.old) (stored_kind stored) (stored_payload stored) }
+    requires fresh { stored_kind stored ≡ box_kind → (seen : Stored) → ReadsAs (view pass.old) stored seen →
+        stored_words seen ≢ said_at (held_unboxed o (view pass.old)).table count }
     ensures pass { IsPassOf bank.now pass.new }
     ensures stack { stack_of pass.new ≡ stack_of pass.old }
     ensures list { WritesList (shape_of bank.now) o table (view pass.new) }
     ensures only { OnlyWritten o (view pass.old) (view pass.new) }
-    ensures references { SameReferences (view pass.old) (view pass.new) }
+    ensures references { GivesReference (shape_of bank.now) stored (view pass.old) (view pass.new) }
     ensures block { (held_unboxed o (view pass.new)).block ≡ (held_unboxed o (view pass.old)).block }
-    ensures moved { (values : List Value) → length values ≡ count →
+    ensures boxed { stored_kind stored ≡ box_kind →
+        (item_field (held_words o (view pass.new)).table count 1 ≡ stored_kind stored)
+        × (item_field (held_words o (view pass.new)).table count 2 ≡ stored_payload stored) }
+    ensures moved { (value : Value) → ReadsAs (view pass.old) stored (Plain value) →
+        (values : List Value) → length values ≡ count →
         IsPutting (class_of (table_id table)) values count (count + 1) (stored_item values) (held_unboxed o (view pass.old)).table →
         IsMoving (class_of (table_id table)) values (insert values count value) count (count + 1) (count + 1)
         (held_unboxed o (view pass.new)).table }
 {
     let start = bank.cell_of(table);
-    put_item(bank, pass, o, table, start, count, Stored::Plain(value));
+    put_item(bank, pass, o, table, start, count, stored);
 }
 
 /// Adds to a list of that many items whose table has room, as the write of this call. Answers the number of the
@@ -180,9 +203,11 @@ pub(crate) fn add_items(
     called: &Call,
 ) -> u64
     requires pass { IsPassOf bank.now pass.old }
-    requires may { MayWriteList (shape_of bank.now) o (view pass.old) }
+    requires may { MayBeginList (shape_of bank.now) o (view pass.old) }
+    requires spare { HoldsSpare (shape_of bank.now) (view pass.old) }
     requires table { HasTable (shape_of bank.now) o table (view pass.old) }
     requires addition { IsAddition (shape_of bank.now) count addition (view pass.old) }
+    requires stores { StoresAddition addition called.now (view pass.old) }
     requires count { count ≡ length (known_items o (view pass.old)) }
     requires room { count + count_in addition ≤ slots (class_of (table_id table)) }
     requires call { (lc : ListCall) × (called.now ≡ call.List o lc) × Changes o lc reply.Done
@@ -191,7 +216,9 @@ pub(crate) fn add_items(
     ensures stack { stack_of pass.new ≡ stack_of pass.old }
     ensures wrote { Wrote called.now reply.Done result (view pass.old) (view pass.new) }
     ensures root { root_in (held_unboxed o (view pass.new)) ≡ root_in (held_unboxed o (view pass.old)) }
-    ensures references { SameReferences (view pass.old) (view pass.new) }
+    ensures references { GivesReference (shape_of bank.now) (stored_in addition) (view pass.old) (view pass.new) }
+    ensures named { NamesAdded o (known_items o (view pass.old)) addition (view pass.new) }
+    ensures stored { (b : ℕ) → place_use b (view pass.new).log ≢ use_taken }
 {
     begin(bank, pass, o, table);
     put_added(bank, pass, o, table, addition, count);

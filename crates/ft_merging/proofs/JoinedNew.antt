@@ -2,7 +2,6 @@
 use Rattle.std.proofs.Common.{◌≡◌, ◌≢◌, ℕ, suc, ◌+◌, ◌^◌, ◌%◌, ◌<◌, ◌≤◌, false, ◌∷◌, Option, Some, sym, ap, ◌∙◌, subst, arith}
 use Rattle.std.specs.Prelude.{slice_set}
 use Rattle.ft_model.specs.declared.content.Content.{Content}
-use Rattle.ft_model.specs.declared.script.Kind.{Kind}
 use Rattle.ft_model.specs.TableUses.{passes_cap}
 use Rattle.ft_model.specs.Worlds.{kind_of, length_of, serial_of}
 use Rattle.ft_layout.specs.Containers.{StandsAs}

@@ -40,6 +40,8 @@ use Rattle.ft_bank.specs.Passes.{view}
 use Rattle.ft_bank.specs.PassSections.{stack_of}
 use Rattle.ft_bank.specs.TableNames.{table_id}
 use Rattle.ft_bank.proofs.TableAddresses.{class_is}
+use Rattle.ft_boxes.specs.References.{KeepsValues}
+use Rattle.ft_boxes.proofs.Steps.{keeps_self, keeps_then}
 use Rattle.ft_table_calls.specs.Adding.{OnlyFilled}
 use Rattle.ft_table_calls.proofs.Rooting.{filled_same, filled_then}
 use Rattle.ft_search.specs.Rounds.{kind_by}
@@ -65,13 +67,14 @@ pub record FreshRan (s : FreshWords) (calls : List Access) (t : FreshWords) : Ty
   pub mask : t.mask ≡ s.mask
   pub in_place : t.in_place ≡ s.in_place
   pub only : OnlyFilled (view s.pass.now) (view t.pass.now)
+  pub values : KeepsValues (view s.pass.now) (view t.pass.now)
   pub words : fresh_words t ≡ after s.mask calls (fresh_words s)
   pub words_old : old_words t ≡ old_words s
   pub fits : AreAnswered s.mask calls (fresh_words s)
   pub fits_old : FitsOld s.old_mask calls (old_words s)
 
 pub ran_fresh : (s : FreshWords) (calls : List Access) (t : FreshWords) → Runs FreshMade s calls t → FreshRan s calls t
-ran_fresh s [] t r = subst (λ (z : FreshWords). FreshRan s [] z) r (record { bank = refl; pass = refl; stack = refl; o = refl; old = refl; old_mask = refl; table = refl; mask = refl; in_place = refl; only = filled_same (view s.pass.now); words = refl; words_old = refl; fits = tt; fits_old = tt })
+ran_fresh s [] t r = subst (λ (z : FreshWords). FreshRan s [] z) r (record { bank = refl; pass = refl; stack = refl; o = refl; old = refl; old_mask = refl; table = refl; mask = refl; in_place = refl; only = filled_same (view s.pass.now); values = keeps_self (view s.pass.now); words = refl; words_old = refl; fits = tt; fits_old = tt })
 ran_fresh s (a ∷ calls) t r =
     let m = r.0 in
     let x = ran_fresh s calls m r.1 in
@@ -89,6 +92,7 @@ ran_fresh s (a ∷ calls) t r =
       mask = g.mask ∙ x.mask;
       in_place = g.in_place ∙ x.in_place;
       only = filled_then (view s.pass.now) (view m.pass.now) (view t.pass.now) x.only g.only;
+      values = keeps_then (view s.pass.now) (view m.pass.now) (view t.pass.now) (sym x.only.work.pass.shape) x.only.references x.values g.values;
       words = g.left ∙ (λ d. put_by (x.mask d) a (x.words d));
       words_old = g.left_old ∙ x.words_old;
       fits = (x.fits, tells);

@@ -13,7 +13,7 @@ use Rattle.ft_trace.specs.declared.Shape.{Shape}
 use Rattle.ft_trace.specs.declared.View.{View}
 use Rattle.ft_trace.specs.Acts.{has_lock, is_writing, has_emptied, owes, view_after}
 use Rattle.ft_trace.specs.Addresses.{container_count, class_of, slots}
-use Rattle.ft_trace.specs.Boxes.{place_use, use_taken}
+use Rattle.ft_trace.specs.Boxes.{place_use, StoresTaken}
 use Rattle.ft_trace.specs.Holds.{held_unboxed, known_state}
 use Rattle.ft_trace.specs.Kinds.{rows, version_at, CarefulAs, ClearAs}
 use Rattle.ft_trace.specs.OddVersions.{Shut}
@@ -78,7 +78,7 @@ module _ (o : ℕ) (v u : View) (since : Since o v u) where
     words = has.words;
   }
 
-  module _ (k : Shape) (table : Table) (place : ℕ) (called : Call) (said : Reply) (left : ContainerState) (leaves : Leaves o called said left v) (shape : v.shape ≡ k) (low : o < container_count k) (some : 0 < v.left) (untaken : (b : ℕ) → place_use b v.log ≢ use_taken)
+  module _ (k : Shape) (table : Table) (place : ℕ) (called : Call) (said : Reply) (left : ContainerState) (leaves : Leaves o called said left v) (shape : v.shape ≡ k) (low : o < container_count k) (some : 0 < v.left) (stores : (found : StoredWorld) → MayHave u found → StoresTaken u.shape found.world u.log called)
       (takes : (found : StoredWorld) (class : ℕ) → MayHave v found → owes v.log ≡ suc class → takes_in found called ≡ Some class)
       (kind_eq : kind_of (known_state o v).content ≡ kind_in k.starts o) (was : TableUse) (change : Changing k.texts (table_id table) (held_unboxed o u) (record { content = (known_state o v).content; table = was }) place [] left) (root : root_in (held_unboxed o u) ≡ suc (table_id table)) where
     abbrev c : ℕ
@@ -121,7 +121,7 @@ module _ (o : ℕ) (v u : View) (since : Since o v u) where
           takes = λ found class has owed. takes found class (has_since found has) (sym since.owes ∙ owed);
           empties = λ e. absurd (true≢false (sym e ∙ subst (λ (n : ℕ). has_emptied n u.log ≡ false) name since.emptied));
           locks = λ p e. since.locks p ∙ leaves.locks p e;
-          stores = λ found has. ((λ b taken. absurd (untaken b (since.places b taken))), (λ b c taken other. absurd (untaken b (since.places b taken))));
+          stores = stores;
         }
 
     pub key_finishes : MayFinish o table place called said u

@@ -21,6 +21,7 @@ use Rattle.ft_table_calls.specs.Adding.{OnlyFilled}
 use Rattle.ft_table_calls.proofs.Rooting.{filled_wrote, rooted_write}
 use Rattle.ft_search.specs.OneEntryWrites.{Leaves}
 use Rattle.ft_search.proofs.Puts.{done_then, few_done}
+use Rattle.ft_new_keys.specs.HeldKeys.{MayPutInNew}
 use Rattle.ft_new_keys.specs.KeyGrowth.{BeginsIn, KnowsKeyed, MayBeginKeyed, MayGrowKeyed}
 
 -- what a pass knows of a container stays, where it knows the same words and the same content
@@ -56,6 +57,17 @@ grow_filled k o old table v x shape only may = record {
   fresh = only.work.hands (table_id table) ∙ may.fresh;
   table_in = may.table_in;
   boxes = done_then k v x shape only.work.pass.shape only.references only.made may.boxes;
+  left = subst (λ (n : ℕ). 0 < n) (sym only.work.left) may.left;
+}
+
+pub put_filled : (k : Shape) (o : ℕ) (old : Option Table) (table : Table) (v x : View) → v.shape ≡ k → OnlyFilled v x → MayPutInNew k o old table v → MayPutInNew k o old table x
+put_filled k o old table v x shape only may = record {
+  keyed = knows_filled k o old v x shape only may.keyed;
+  even = λ p. only.work.pass.writes p ∙ may.even p;
+  used = only.work.used ∙ may.used;
+  owed = only.work.owes ∙ may.owed;
+  fresh = only.work.hands (table_id table) ∙ may.fresh;
+  table_in = may.table_in;
   left = subst (λ (n : ℕ). 0 < n) (sym only.work.left) may.left;
 }
 

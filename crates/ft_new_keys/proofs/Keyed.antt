@@ -36,8 +36,9 @@ use Rattle.ft_bank.specs.TableNames.{table_id, IsTableIn}
 use Rattle.ft_bank.proofs.TableAddresses.{class_is, named}
 use Rattle.ft_search.specs.Held.{IsHeldAt}
 use Rattle.ft_search.specs.Rounds.{kind_by}
-use Rattle.ft_search.specs.OneEntryWrites.{HasTable, MayWriteEntries}
+use Rattle.ft_search.specs.OneEntryWrites.{HasTable, KnowsEntries, MayWriteEntries}
 use Rattle.ft_search.proofs.Changing.{kind_is, shut_known, no_keys}
+use Rattle.ft_search.proofs.Spotting.{may_knows}
 use Rattle.ft_search.proofs.WordPlaces.{slots_of_class}
 use Rattle.ft_new_keys.specs.declared.counts.Counts.{Counts}
 use Rattle.ft_new_keys.specs.KeyGrowth.{KnowsKeyed, IsFreeFor, use_of}
@@ -97,28 +98,35 @@ fresh_other k v o table shape possible low mine table_in fresh names =
     let no : ⊥ = omega (arith, hand, root, fresh) in
     no)
 
--- a pass that may write it knows it
-pub knows_here : (k : Shape) (o : ℕ) (table : Table) (v : View) → MayWriteEntries k o v → HasTable k o table v → KnowsKeyed k o (Some table) v
-knows_here k o table v may has = record {
-  container = may.container;
-  keyed = may.keyed;
-  locked = may.locked;
-  even = may.even o;
-  stands = may.stands;
+-- with its table, or without one
+pub knows_of : (k : Shape) (o : ℕ) (table : Table) (v : View) → KnowsEntries k o v → HasTable k o table v → KnowsKeyed k o (Some table) v
+knows_of k o table v knows has = record {
+  container = knows.container;
+  keyed = knows.keyed;
+  locked = knows.locked;
+  even = knows.even;
+  stands = knows.stands;
   table_in = λ t is. subst (IsTableIn k) (ap (λ (z : Option Table). unwrap_or z table) is) has.table_in;
   root = has.root;
 }
 
-pub knows_bare : (k : Shape) (o : ℕ) (v : View) → MayWriteEntries k o v → root_in (held_unboxed o v) ≡ 0 → KnowsKeyed k o None v
-knows_bare k o v may bare = record {
-  container = may.container;
-  keyed = may.keyed;
-  locked = may.locked;
-  even = may.even o;
-  stands = may.stands;
+pub knows_none : (k : Shape) (o : ℕ) (v : View) → KnowsEntries k o v → root_in (held_unboxed o v) ≡ 0 → KnowsKeyed k o None v
+knows_none k o v knows bare = record {
+  container = knows.container;
+  keyed = knows.keyed;
+  locked = knows.locked;
+  even = knows.even;
+  stands = knows.stands;
   table_in = λ t is. absurd (true≢false (sym (ap is_some is)));
   root = bare;
 }
+
+-- a pass that may write it knows it
+pub knows_here : (k : Shape) (o : ℕ) (table : Table) (v : View) → MayWriteEntries k o v → HasTable k o table v → KnowsKeyed k o (Some table) v
+knows_here k o table v may has = knows_of k o table v (may_knows k o v may) has
+
+pub knows_bare : (k : Shape) (o : ℕ) (v : View) → MayWriteEntries k o v → root_in (held_unboxed o v) ≡ 0 → KnowsKeyed k o None v
+knows_bare k o v may bare = knows_none k o v (may_knows k o v may) bare
 
 -- ---- a new key in the table that it has
 

@@ -20,3 +20,6 @@ pub mod NamedValues
 pub mod MovedFills
 pub mod GoneEntries
 pub mod UnstoredBoxes
+pub mod HeldKeys
+pub mod HeldCalls
+pub mod FreshSteps

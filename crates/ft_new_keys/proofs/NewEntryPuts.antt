@@ -1,9 +1,11 @@
 -- The puts of a new entry by a pass that writes its container.
-use Rattle.std.proofs.Common.{◌≡◌, ◌≢◌, ℕ, ◌+◌, ◌<◌, false, List, refl, sym, ap, ◌∙◌, subst, arith, get_or-set_same, get_or-set_other}
+use Rattle.std.proofs.Common.{◌≡◌, ◌≢◌, ℕ, ◌+◌, ◌<◌, false, List, [], ◌∷◌, map, refl, sym, ap, ◌∙◌, subst, arith, get_or-set_same, get_or-set_other}
 use Rattle.std.specs.Prelude.{slice_index, slice_set}
 use Rattle.ft_model.specs.declared.script.Kind.{Kind}
 use Rattle.ft_layout.specs.declared.slot.Pair.{Pair}
 use Rattle.ft_layout.specs.Words.{entry_words, stored_kind}
+use Rattle.ft_keys.specs.declared.words.Access.{Access}
+use Rattle.ft_keys.specs.declared.words.Access.TheVariants.{PutEntry}
 use Rattle.ft_keys.specs.Accesses.{Allows}
 use Rattle.ft_keys.specs.TableChanges.{place_puts}
 use Rattle.ft_trace.specs.declared.Shape.{Shape}
@@ -15,20 +17,25 @@ use Rattle.ft_trace.specs.Kinds.{rows, version_at, IsKeyed}
 use Rattle.ft_trace.specs.Pictures.{ContainerWords, entry_offset, entry_field}
 use Rattle.ft_trace.specs.ContainerStates.{kind_in}
 use Rattle.ft_bank.specs.declared.table.Table.{Table}
-use Rattle.ft_bank.specs.BoxSteps.{IsOpenValue}
+use Rattle.ft_trace.specs.Traces.{IsReachable}
+use Rattle.ft_bank.specs.BoxSteps.{box_id, IsOpenValue}
 use Rattle.ft_bank.specs.Passes.{view}
-use Rattle.ft_bank.specs.SameBoxes.{HoldsFew}
+use Rattle.ft_bank.specs.SameBoxes.{HoldsFew, SameBoxes}
 use Rattle.ft_bank.specs.TableNames.{table_id, IsTableIn}
 use Rattle.ft_bank.specs.WriteSteps.{IsCareful}
 use Rattle.ft_search.specs.declared.words.TableWords.{TableWords}
-use Rattle.ft_search.specs.TableWords.{KnowsWords, MayMake, MadeAccess}
+use Rattle.ft_boxes.specs.References.{KeepsValues}
+use Rattle.ft_boxes.proofs.Steps.{keeps_same}
+use Rattle.ft_search.specs.TableWords.{access_act, KnowsWords, MayMake, MadeAccess}
+use Rattle.ft_search.proofs.Keeping.{ArePuts}
+use Rattle.ft_search.proofs.Owning.{held_is_box}
 use Rattle.ft_search.specs.OneEntryWrites.{WritesEntries, raised_at}
 use Rattle.ft_search.proofs.Puts.{entry_refs, few_places, keyed_value, keyed_version}
 use Rattle.ft_new_keys.specs.Placing.{counted}
 use Rattle.ft_new_keys.specs.Internal.Laying.{IsUnused}
 use Rattle.ft_new_keys.proofs.Laid.{AreCarefulCalls, allows_calls, careful_at}
 use Rattle.ft_new_keys.proofs.PlainCalls.{place_plain}
-use Rattle.ft_new_keys.proofs.Stages.{as_careful, in_time, open_careful, open_odd, place_careful}
+use Rattle.ft_new_keys.proofs.Stages.{as_careful, body, body_puts, in_time, open_careful, open_odd, place_careful, AreBodyPuts}
 
 -- the counts of a block leave its root
 pub counts_root : (b : List ℕ) (count fill next : ℕ) → slice_index (counted b count fill next) 0 ≡ slice_index b 0
@@ -100,3 +107,17 @@ pair_allowed s k x slot place pair shape container table_in keyed size knows ear
 -- places are few
 pub few_used : (k : Shape) (o : ℕ) (table : Table) (v : View) (slot place : ℕ) (words : List ℕ) → WritesEntries k o table v → IsUnused (slots (class_of (table_id table))) (rows (kind_in k.starts o) (class_of (table_id table))) words slot place → place < 65536
 few_used k o table v slot place words writes un = few_places k table (kind_in k.starts o) place writes.table_in writes.keyed un.low
+
+-- ---- what the pass knows of values in boxes
+
+pub boxes_keep : (v w : View) → ∥ IsReachable v ∥₁ → SameBoxes v w → KeepsValues v w
+boxes_keep v w possible same = keeps_same v w (λ b held. held_is_box v (box_id b) possible held.1) same.knows
+
+body_acts : (o t p : ℕ) (calls : List Access) → AreBodyPuts p calls → ArePuts o (map (access_act o t) calls)
+body_acts o t p [] b = tt
+body_acts o t p (PutEntry place word value ∷ calls) b = (refl, body_acts o t p calls b.1)
+body_acts o t p (access ∷ calls) b = absurd b.0
+
+-- the puts of a pair are puts of words of the container
+pub place_acts : (o t slot place : ℕ) (pair : Pair) → ArePuts o (map (access_act o t) (place_puts slot place (entry_words pair)))
+place_acts o t slot place pair = (refl, (refl, body_acts o t place (body place (entry_words pair)) (body_puts place (entry_words pair))))

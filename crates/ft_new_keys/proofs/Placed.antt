@@ -20,7 +20,7 @@ use Rattle.ft_hash.proofs.Walks.{dict_slots-within, set_slots-within}
 use Rattle.ft_layout.specs.declared.slot.Pair.{Pair}
 use Rattle.ft_layout.specs.declared.slot.Stored.{Stored}
 use Rattle.ft_layout.specs.declared.slot.Stored.TheVariants.{Empty, Plain}
-use Rattle.ft_layout.specs.Words.{FitsKey, FitsPair, FitsStored, entry_words, key_kind, key_payload, stored_kind}
+use Rattle.ft_layout.specs.Words.{FitsKey, FitsPair, FitsStored, entry_words, key_kind, key_payload, stored_kind, stored_payload}
 use Rattle.ft_layout.specs.Tables.{UsedEntry, is_live, hash_of, index_word, dict_room, set_room, IsDictTable, IsSetTable}
 use Rattle.ft_layout.specs.Tables as layout
 use Rattle.ft_layout.specs.Containers.{class_mask, used_pair, used_element, IsRoot, IsBlock, AreDictEntries, AreSetEntries, IsDictWords, IsSetWords, StandsAs}
@@ -193,6 +193,21 @@ next_stores first_pair first_element texts b l class fill (content.Set elements)
 next_stores first_pair first_element texts b l class fill (content.List values) keyed is_class is low = absurd keyed
 next_stores first_pair first_element texts b l class fill (content.Deque deque) keyed is_class is low = absurd keyed
 
+-- with no payload
+pub next_value : (first_pair : FirstEntriesArePairs) (first_element : FirstEntriesAreElements) (texts b l : List ℕ) (class fill : ℕ) (d : Content) → IsKeyed (kind_of d) → IsClass class → StandsAs texts b (0 ∷ 0 ∷ l) (use_with class fill) d → fill < rows (kind_of d) class → entry_field (slots class) l fill 5 ≡ 0
+next_value first_pair first_element texts b l class fill (content.Dict pairs) keyed is_class is low =
+    let room = dict.room_is first_pair texts b class fill is_class pairs l is in
+    let filled = is.filled in
+    let u = is.table.unused fill (omega (arith, filled)) (omega (arith, room, low)) in
+    sym (word_is (λ hash. dict_slots hash (class_mask class) (class_mask class + 14)) (dict_room (class_mask class)) texts class is_class is.used l is.table fill 5) ∙ u.value.payload_is
+next_value first_pair first_element texts b l class fill (content.Set elements) keyed is_class is low =
+    let room = set.room_is first_element texts b class fill is_class elements l is in
+    let filled = is.filled in
+    let u = is.table.unused fill (omega (arith, filled)) (omega (arith, room, low)) in
+    sym (word_is (λ hash. set_slots hash (class_mask class) (class_mask class + 14)) (set_room (class_mask class)) texts class is_class is.used l is.table fill 5) ∙ u.value.payload_is
+next_value first_pair first_element texts b l class fill (content.List values) keyed is_class is low = absurd keyed
+next_value first_pair first_element texts b l class fill (content.Deque deque) keyed is_class is low = absurd keyed
+
 -- ---- the payload of the key's words
 
 -- the entry after those that were used has none yet
@@ -210,13 +225,17 @@ next_payload first_pair first_element texts b l class fill (content.Set elements
 next_payload first_pair first_element texts b l class fill (content.List values) keyed is_class is low = absurd keyed
 next_payload first_pair first_element texts b l class fill (content.Deque deque) keyed is_class is low = absurd keyed
 
-laid_other : (n p word value : ℕ) (calls : List Access) (l : List ℕ) → word ≢ 3 → slice_index (laid n (unless_zero p word value ++ calls) l) (entry_offset n p 3) ≡ slice_index (laid n calls l) (entry_offset n p 3)
-laid_other n p word zero calls l ne = refl
-laid_other n p word (suc value) calls l ne = get_or-set_other (laid n calls l) (entry_offset n p word) (entry_offset n p 3) (suc value) 0 (λ e. ne (omega (arith, e)))
+laid_other : (n p word at value : ℕ) (calls : List Access) (l : List ℕ) → word ≢ at → slice_index (laid n (unless_zero p word value ++ calls) l) (entry_offset n p at) ≡ slice_index (laid n calls l) (entry_offset n p at)
+laid_other n p word at zero calls l ne = refl
+laid_other n p word at (suc value) calls l ne = get_or-set_other (laid n calls l) (entry_offset n p word) (entry_offset n p at) (suc value) 0 (λ e. ne (omega (arith, e)))
 
-laid_here : (n p value : ℕ) (calls : List Access) (l : List ℕ) → slice_index (laid n calls l) (entry_offset n p 3) ≡ 0 → entry_offset n p 3 < length (laid n calls l) → slice_index (laid n (unless_zero p 3 value ++ calls) l) (entry_offset n p 3) ≡ value
-laid_here n p zero calls l none long = none
-laid_here n p (suc value) calls l none long = get_or-set_same (laid n calls l) (entry_offset n p 3) (suc value) 0 long
+laid_here : (n p at value : ℕ) (calls : List Access) (l : List ℕ) → slice_index (laid n calls l) (entry_offset n p at) ≡ 0 → entry_offset n p at < length (laid n calls l) → slice_index (laid n (unless_zero p at value ++ calls) l) (entry_offset n p at) ≡ value
+laid_here n p at zero calls l none long = none
+laid_here n p at (suc value) calls l none long = get_or-set_same (laid n calls l) (entry_offset n p at) (suc value) 0 long
+
+laid_long : (n p word value : ℕ) (calls : List Access) (l : List ℕ) → length (laid n (unless_zero p word value ++ calls) l) ≡ length (laid n calls l)
+laid_long n p word zero calls l = refl
+laid_long n p word (suc value) calls l = length-set (laid n calls l) (entry_offset n p word) (suc value)
 
 pub payload_laid : (n p : ℕ) (entry l : List ℕ) → entry_field n l p 3 ≡ 0 → entry_offset n p 3 < length l → entry_field n (laid n (body p entry) l) p 3 ≡ slice_index entry 3
 payload_laid n p entry l none long =
@@ -227,9 +246,33 @@ payload_laid n p entry l none long =
     let five : List Access = unless_zero p 5 (word 5) ++ four in
     let size = length-set l (entry_offset n p 1) (word 1) in
     get_or-set_other (laid n five l) (entry_offset n p 6) (entry_offset n p 3) (word 6) 0 (λ e. absurd (omega (arith, e)))
-    ∙ (laid_other n p 5 (word 5) four l (λ e. absurd (omega (arith, e)))
-    ∙ (laid_other n p 4 (word 4) three l (λ e. absurd (omega (arith, e)))
-    ∙ laid_here n p (word 3) one l (get_or-set_other l (entry_offset n p 1) (entry_offset n p 3) (word 1) 0 (λ e. absurd (omega (arith, e))) ∙ none) (omega (arith, long, size))))
+    ∙ (laid_other n p 5 3 (word 5) four l (λ e. absurd (omega (arith, e)))
+    ∙ (laid_other n p 4 3 (word 4) three l (λ e. absurd (omega (arith, e)))
+    ∙ laid_here n p 3 (word 3) one l (get_or-set_other l (entry_offset n p 1) (entry_offset n p 3) (word 1) 0 (λ e. absurd (omega (arith, e))) ∙ none) (omega (arith, long, size))))
+
+-- ---- the words of the value
+
+value_laid : (n p : ℕ) (entry l : List ℕ) → entry_field n l p 4 ≡ 0 → entry_field n l p 5 ≡ 0 → entry_offset n p 5 < length l → (entry_field n (laid n (body p entry) l) p 4 ≡ slice_index entry 4) × (entry_field n (laid n (body p entry) l) p 5 ≡ slice_index entry 5)
+value_laid n p entry l no_kind no_payload long =
+    let word : ℕ → ℕ = slice_index entry in
+    let one : List Access = PutEntry p 1 (word 1) ∷ [] in
+    let three : List Access = unless_zero p 3 (word 3) ++ one in
+    let four : List Access = unless_zero p 4 (word 4) ++ three in
+    let five : List Access = unless_zero p 5 (word 5) ++ four in
+    let size1 = length-set l (entry_offset n p 1) (word 1) in
+    let size3 = laid_long n p 3 (word 3) one l in
+    let size4 = laid_long n p 4 (word 4) three l in (
+      get_or-set_other (laid n five l) (entry_offset n p 6) (entry_offset n p 4) (word 6) 0 (λ e. absurd (omega (arith, e)))
+          ∙ (laid_other n p 5 4 (word 5) four l (λ e. absurd (omega (arith, e)))
+          ∙ laid_here n p 4 (word 4) three l
+          (laid_other n p 3 4 (word 3) one l (λ e. absurd (omega (arith, e))) ∙ (get_or-set_other l (entry_offset n p 1) (entry_offset n p 4) (word 1) 0 (λ e. absurd (omega (arith, e))) ∙ no_kind))
+          (omega (arith, long, size1, size3))),
+      get_or-set_other (laid n five l) (entry_offset n p 6) (entry_offset n p 5) (word 6) 0 (λ e. absurd (omega (arith, e)))
+          ∙ laid_here n p 5 (word 5) four l
+          (laid_other n p 4 5 (word 4) three l (λ e. absurd (omega (arith, e)))
+          ∙ (laid_other n p 3 5 (word 3) one l (λ e. absurd (omega (arith, e))) ∙ (get_or-set_other l (entry_offset n p 1) (entry_offset n p 5) (word 1) 0 (λ e. absurd (omega (arith, e))) ∙ no_payload)))
+          (omega (arith, long, size1, size3, size4)),
+    )
 
 -- the pair whose entry a key gets
 abbrev pub pair_for : List ℕ → Content → Key → Stored → Pair
@@ -437,6 +480,29 @@ module _ (laws : PlaceLaws) (texts : List ℕ) (x : ContainerWords) (t slot : �
       let low = fresh.room in
       let none : entry_field n ow p 3 ≡ 0 = get_or-set_other ws (entry_offset n p 0) (entry_offset n p 3) (ver + 1) 0 (λ e. absurd (omega (arith, e))) ∙ next_payload laws.first_pair laws.first_element texts fresh.before ws c p d fresh.keyed fresh.is_class fresh.says fresh.room in
       payload_laid n p (entry_words pair) ow none (omega (arith, size, long, low))
+
+  -- the entry has the key and what is stored there
+  pub said_now : HasLiveKey n y.table p key × (entry_field n y.table p 4 ≡ stored_kind stored) × (entry_field n y.table p 5 ≡ stored_payload stored)
+  said_now =
+      let s = body_stage n m ws slot p un (body p (entry_words pair)) (body_puts p (entry_words pair)) in
+      let in_index = un.in_index in
+      let size = s.size in
+      let low = fresh.room in
+      let long = fresh.long in
+      let raised = length-set ws (entry_offset n p 0) (ver + 1) in
+      let second : List ℕ = slice_set l (entry_offset n p 2) (key_kind key) in
+      let past : (w : ℕ) → w ≢ 2 → entry_field n y.table p w ≡ entry_field n l p w =
+      λ w ne. get_or-set_other second slot (entry_offset n p w) (p + 1) 0 (λ e. absurd (omega (arith, e, in_index))) ∙ get_or-set_other l (entry_offset n p 2) (entry_offset n p w) (key_kind key) 0 (λ e. ne (omega (arith, e))) in
+      let four : entry_field n ow p 4 ≡ 0 = get_or-set_other ws (entry_offset n p 0) (entry_offset n p 4) (ver + 1) 0 (λ e. absurd (omega (arith, e))) ∙ next_stores laws.first_pair laws.first_element texts fresh.before ws c p d fresh.keyed fresh.is_class fresh.says fresh.room in
+      let five : entry_field n ow p 5 ≡ 0 = get_or-set_other ws (entry_offset n p 0) (entry_offset n p 5) (ver + 1) 0 (λ e. absurd (omega (arith, e))) ∙ next_value laws.first_pair laws.first_element texts fresh.before ws c p d fresh.keyed fresh.is_class fresh.says fresh.room in
+      let value = value_laid n p (entry_words pair) ow four five (omega (arith, raised, long, low)) in (
+        (
+          get_or-set_other second slot (entry_offset n p 2) (p + 1) 0 (λ e. absurd (omega (arith, e, in_index))) ∙ get_or-set_same l (entry_offset n p 2) (key_kind key) 0 (omega (arith, size, low)),
+          past 3 (λ e. absurd (omega (arith, e))) ∙ payload_is,
+        ),
+        past 4 (λ e. absurd (omega (arith, e))) ∙ value.0,
+        past 5 (λ e. absurd (omega (arith, e))) ∙ value.1,
+      )
 
   -- nothing was under the key
   pub lacks : under d key ≡ []

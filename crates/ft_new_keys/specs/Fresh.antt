@@ -14,6 +14,7 @@ use Rattle.ft_trace.specs.Pictures.{root_in, entry_field}
 use Rattle.ft_bank.specs.Passes.{shape_of, view, IsPassOf}
 use Rattle.ft_bank.specs.PassSections.{stack_of}
 use Rattle.ft_bank.specs.TableNames.{table_id, IsTableIn}
+use Rattle.ft_boxes.specs.References.{KeepsValues}
 use Rattle.ft_table_calls.specs.Adding.{OnlyFilled}
 use Rattle.ft_new_keys.specs.declared.fresh.FreshWords.{FreshWords}
 
@@ -57,6 +58,7 @@ pub record FreshMade (s : FreshWords) (access : Access) (t : FreshWords) : Type 
   pub mask : t.mask ≡ s.mask
   pub in_place : t.in_place ≡ s.in_place
   pub only : OnlyFilled (view s.pass.now) (view t.pass.now)
+  pub values : KeepsValues (view s.pass.now) (view t.pass.now)
   pub tells : Tells s.mask access (fresh_words s)
   pub tells_old : TellsOld s.old_mask access (old_words s)
   pub left : fresh_words t ≡ put_by s.mask access (fresh_words s)

@@ -15,6 +15,7 @@ ghost use Rattle.ft_trace.specs.ContainerStates.{kind_in};
 ghost use Rattle.ft_bank.specs.Passes.{shape_of, view, IsPassOf};
 ghost use Rattle.ft_bank.specs.PassSections.{stack_of};
 ghost use Rattle.ft_bank.specs.TableNames.{table_id, IsTableIn};
+ghost use Rattle.ft_boxes.specs.References.{KeepsValues};
 ghost use Rattle.ft_table_calls.specs.Adding.{OnlyFilled};
 ghost use Rattle.ft_search.specs.Rounds.{kind_by};
 ghost use Rattle.ft_new_keys.specs.Fresh.{CanFill, FreshMade, HasZeroWords, IsFilledWith, old_entries};
@@ -38,6 +39,7 @@ pub fn blank(bank: &Bank, pass: &mut Pass, table: Table)
     ensures pass { IsPassOf bank.now pass.new }
     ensures stack { stack_of pass.new ≡ stack_of pass.old }
     ensures only { OnlyFilled (view pass.old) (view pass.new) }
+    ensures values { KeepsValues (view pass.old) (view pass.new) }
     ensures blank { HasZeroWords (class_of (table_id table)) (in_hand (table_id table) (view pass.new)) }
 {
     for at in 0..table_size(table.class) - 2 {
@@ -54,6 +56,7 @@ fn rebuild_in(words: &mut FreshWords<'_>, way: Way, mask: u64, old_fill: u64) ->
     ensures stack { stack_of words.exit.now.pass.now ≡ stack_of words.entry.now.pass.now }
     ensures may { IsPassOf words.entry.now.bank.now words.exit.now.pass.now }
     ensures only { OnlyFilled (view words.entry.now.pass.now) (view words.exit.now.pass.now) }
+    ensures values { KeepsValues (view words.entry.now.pass.now) (view words.exit.now.pass.now) }
     ensures moves { Moves FreshMade mask words.entry.now words.exit.now (13 * old_fill) result
         (Rebuilds way mask old_fill result) }
 {
@@ -165,6 +168,7 @@ fn move_table(bank: &Bank, pass: &mut Pass, o: u32, growth: &Growth, old: Table)
     ensures pass { IsPassOf bank.now pass.new }
     ensures stack { stack_of pass.new ≡ stack_of pass.old }
     ensures only { OnlyFilled (view pass.old) (view pass.new) }
+    ensures values { KeepsValues (view pass.old) (view pass.new) }
     ensures moved { HasMoved (shape_of bank.now) o growth.now.table (view pass.new) }
 {
     calls_keep_versions();
@@ -201,6 +205,7 @@ pub fn move_entries(bank: &Bank, pass: &mut Pass, o: u32, growth: &Growth)
     ensures pass { IsPassOf bank.now pass.new }
     ensures stack { stack_of pass.new ≡ stack_of pass.old }
     ensures only { OnlyFilled (view pass.old) (view pass.new) }
+    ensures values { KeepsValues (view pass.old) (view pass.new) }
     ensures moved { HasMoved (shape_of bank.now) o growth.now.table (view pass.new) }
 {
     changed_words_are_of_a_table();

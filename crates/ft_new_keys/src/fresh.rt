@@ -13,6 +13,7 @@ ghost use Rattle.ft_bank.specs.Passes.{shape_of, view, IsPassOf};
 ghost use Rattle.ft_bank.specs.PassSections.{stack_of};
 ghost use Rattle.ft_bank.specs.TableNames.{table_id, IsTableIn};
 ghost use Rattle.ft_bank.specs.Whole.{OnlyLoaded};
+ghost use Rattle.ft_boxes.specs.References.{KeepsValues};
 
 use ft_bank::{Bank, Pass, Table};
 use ft_keys::{Move as TableMove, Words};
@@ -32,6 +33,7 @@ pub fn read_stored(bank: &Bank, pass: &mut Pass, o: u32, table: Table, word: u64
     ensures pass { IsPassOf bank.now pass.new }
     ensures stack { stack_of pass.new ≡ stack_of pass.old }
     ensures only { OnlyLoaded (view pass.old) (view pass.new) }
+    ensures values { KeepsValues (view pass.old) (view pass.new) }
     ensures kind { result.0 ≡ slice_index (held_unboxed o (view pass.old)).table word }
     ensures payload { result.1 ≡ slice_index (held_unboxed o (view pass.old)).table (word + 1) }
 {
@@ -77,19 +79,23 @@ impl<'a> Words for FreshWords<'a> {
 
     ghost gave = { FreshMade };
 
+    #[tactic(auto, using(crate::proofs::FreshSteps::keeps_load))]
     fn index(&mut self, slot: u64) -> u64 {
         self.bank.read_table(self.pass, self.table, slot)
     }
 
+    #[tactic(auto, using(crate::proofs::FreshSteps::keeps_load))]
     fn entry(&mut self, place: u64, word: u64) -> u64 {
         let at = 8 * place + word + self.mask + 1;
         self.bank.read_table(self.pass, self.table, at)
     }
 
+    #[tactic(auto, using(crate::proofs::FreshSteps::keeps_fresh))]
     fn put_index(&mut self, slot: u64, value: u64) {
         self.bank.put_fresh(self.pass, self.table, slot, value);
     }
 
+    #[tactic(auto, using(crate::proofs::FreshSteps::keeps_fresh))]
     fn put_entry(&mut self, place: u64, word: u64, value: u64) {
         let at = 8 * place + word + self.mask + 1;
         self.bank.put_fresh(self.pass, self.table, at, value);

@@ -13,6 +13,7 @@ ghost use Rattle.ft_bank.specs.SameBoxes.{StaysSettled};
 ghost use Rattle.ft_bank.specs.declared.table.Table.{Table};
 ghost use Rattle.ft_bank.specs.TableNames.{table_id, IsPlaceOf, IsTableIn};
 ghost use Rattle.ft_bank.specs.Whole.{OnlyBoxed};
+ghost use Rattle.ft_boxes.specs.References.{KeepsValues};
 ghost use Rattle.ft_search.specs.Rounds.{kind_by};
 ghost use Rattle.ft_new_keys.specs.Moving.{HoldsGone, gone_in_old};
 
@@ -43,6 +44,7 @@ fn drop_entry(bank: &Bank, pass: &mut Pass, table: Table, start: u64, entry: u64
     ensures stack { stack_of pass.new ≡ stack_of pass.old }
     ensures only { OnlyBoxed (view pass.old) (view pass.new) }
     ensures made { StaysSettled (view pass.old) (view pass.new) }
+    ensures values { KeepsValues (view pass.old) (view pass.new) }
     ensures references { (b : ℕ) → references_held (shape_of bank.now) b (view pass.old).log ≡
         references_held (shape_of bank.now) b (view pass.new).log
         + (if nat_lt (slice_index (in_hand (table_id table) (view pass.old)) (entry + 2)) 3 then 0
@@ -69,6 +71,7 @@ pub(crate) fn drop_gone(bank: &Bank, pass: &mut Pass, o: u32, way: Way, old: Opt
     ensures stack { stack_of pass.new ≡ stack_of pass.old }
     ensures only { OnlyBoxed (view pass.old) (view pass.new) }
     ensures made { StaysSettled (view pass.old) (view pass.new) }
+    ensures values { KeepsValues (view pass.old) (view pass.new) }
     ensures references { (b : ℕ) → references_held (shape_of bank.now) b (view pass.new).log
         + gone_in_old (shape_of bank.now) o old (view pass.old) b
         ≡ references_held (shape_of bank.now) b (view pass.old).log }
@@ -90,6 +93,7 @@ fn drop_gone_in(bank: &Bank, pass: &mut Pass, o: u32, way: Way, table: Table)
     ensures stack { stack_of pass.new ≡ stack_of pass.old }
     ensures only { OnlyBoxed (view pass.old) (view pass.new) }
     ensures made { StaysSettled (view pass.old) (view pass.new) }
+    ensures values { KeepsValues (view pass.old) (view pass.new) }
     ensures references { (b : ℕ) → references_held (shape_of bank.now) b (view pass.new).log
         + gone_in_old (shape_of bank.now) o (Some table) (view pass.old) b
         ≡ references_held (shape_of bank.now) b (view pass.old).log }

@@ -24,24 +24,27 @@ ghost use Rattle.ft_bank.specs.SameBoxes.{SameReferences, StaysSettled};
 ghost use Rattle.ft_bank.specs.declared.table.Table.{Table};
 ghost use Rattle.ft_bank.specs.TableNames.{table_id, IsTableIn};
 ghost use Rattle.ft_bank.specs.Whole.{OnlyBoxed, OnlyLoaded, Wrote};
+ghost use Rattle.ft_boxes.specs.References.{KeepsValues};
 ghost use Rattle.ft_table_calls.specs.Dropping.{AreValuePlaces};
 ghost use Rattle.ft_search.specs.Held.{IsHeldAt, KnowsTable};
 ghost use Rattle.ft_search.specs.Rounds.{kind_by};
 ghost use Rattle.ft_search.specs.OneEntryWrites.{WritesEntries};
 ghost use Rattle.ft_new_keys.specs.Moving.{HasMoved};
-ghost use Rattle.ft_new_keys.specs.KeyGrowth.{AddsKey, BeginsIn, HoldsOld, IsFreeFor, MayBeginKeyed, MayGrowKeyed, key_takes, most_of, named_in_old};
+ghost use Rattle.ft_new_keys.specs.KeyGrowth.{AddsKey, BeginsIn, HoldsOld, IsFreeFor, MayBeginKeyed, key_takes, most_of, named_in_old};
+ghost use Rattle.ft_new_keys.specs.HeldKeys.{HoldsFor, KeyInBox, MayPutInNew, PutsInBox};
 ghost use Rattle.ft_new_keys.specs.Placing.{AreCounts, StoresAs};
 
 use crate::counts::Counts;
 use crate::filling::{Growth, move_entries};
 use crate::gone::drop_gone;
+use crate::naming::{NewValue, name_box};
 use crate::placing::put_key;
 use ft_bank::{Bank, Pass, Table};
 use ft_keys::{
     Found, Way, placed_pairs_are_of_a_table, room_of, searches_end_at_the_first_free_slot,
 };
 use ft_layout::{
-    Pair, Stored, entry_word, used_entries_follow_a_dict, used_entries_follow_a_set,
+    Pair, entry_word, used_entries_follow_a_dict, used_entries_follow_a_set,
     versions_change_nothing, words_are_of_one_content, words_follow_a_dict, words_follow_a_set,
 };
 use ft_model::{Call, Key, Reply};
@@ -95,6 +98,7 @@ pub fn begin_in(bank: &Bank, pass: &mut Pass, o: u32, way: Way, old: Option<Tabl
     ensures begins { BeginsIn o table (view pass.old) (view pass.new) }
     ensures writes { WritesEntries (shape_of bank.now) o table (view pass.new) }
     ensures references { SameReferences (view pass.old) (view pass.new) }
+    ensures values { KeepsValues (view pass.old) (view pass.new) }
     ensures words { held_unboxed o (view pass.new) ≡ record {
       block = slice_set (held_unboxed o (view pass.old)).block 0 (suc (table_id table));
       table = hand_unboxed o (table_id table) (view pass.old);
@@ -134,8 +138,8 @@ fn free_slot(bank: &Bank, pass: &mut Pass, o: u32, way: Way, key: Key, table: Ta
     }
 }
 
-/// Adds a key to a dict or a set, which gets this table, as the write of this call. Answers the number of the
-/// write.
+/// Adds a key to a dict or a set, which gets this table, as the write of this call. Its value stands in a box for
+/// which the pass holds the one reference, or in its place. Answers the number of the write.
 pub(crate) fn add_in_new(
     bank: &Bank,
     pass: &mut Pass,
@@ -145,12 +149,14 @@ pub(crate) fn add_in_new(
     table: Table,
     counts: Counts,
     key: Key,
-    stored: Stored,
+    value: NewValue,
     called: &Call,
     said: &Reply,
 ) -> u64
     requires pass { IsPassOf bank.now pass.old }
-    requires may { MayGrowKeyed (shape_of bank.now) o old table (view pass.old) }
+    requires may { MayPutInNew (shape_of bank.now) o old table (view pass.old) }
+    requires holds { HoldsFor value.boxed value.stored (view pass.old) }
+    requires boxing { PutsInBox value.boxed called.now (view pass.old) }
     requires way { kind_in (shape_of bank.now).starts o ≡ kind_by way }
     requires other { root_in (held_unboxed o (view pass.old)) ≢ suc (table_id table) }
     requires key { IsKeyIn (shape_of bank.now) key }
@@ -159,9 +165,9 @@ pub(crate) fn add_in_new(
     requires counts { AreCounts (held_unboxed o (view pass.old)).block counts }
     requires room { counts.count < rows (kind_by way) (class_of (table_id table)) }
     requires serials { serial_of (known_state o (view pass.old)).content < 2 ^ 63 }
-    requires stores { StoresAs (kind_by way) stored }
-    requires value { FitsStored stored }
-    requires adds { AddsKey o called.now said.now key stored (view pass.old) }
+    requires stores { StoresAs (kind_by way) value.stored }
+    requires value { FitsStored value.stored }
+    requires adds { AddsKey o called.now said.now key value.stored (view pass.old) }
     requires few { nat_lt (most_of (known_state o (view pass.old)).content)
         (length_of (known_state o (view pass.old)).content + 1) ≡ false }
     requires takes { key_takes (known_state o (view pass.old)).content (known_state o (view pass.old)).table
@@ -169,7 +175,7 @@ pub(crate) fn add_in_new(
     ensures pass { IsPassOf bank.now pass.new }
     ensures stack { stack_of pass.new ≡ stack_of pass.old }
     ensures wrote { Wrote called.now said.now result (view pass.old) (view pass.new) }
-    ensures references { SameReferences (view pass.old) (view pass.new) }
+    ensures there { KeyInBox (shape_of bank.now) o key value.boxed (view pass.new) }
     ensures root { root_in (held_unboxed o (view pass.new)) ≡ suc (table_id table) }
 {
     versions_change_nothing();
@@ -192,7 +198,7 @@ pub(crate) fn add_in_new(
     let pair = Pair {
         hash,
         key,
-        value: stored,
+        value: value.stored,
         serial: counts.next,
     };
     let all = Counts {
@@ -201,5 +207,6 @@ pub(crate) fn add_in_new(
         next: counts.next,
     };
     put_key(bank, pass, o, table, slot, all, &pair);
+    name_box(bank, pass, o, table, all.fill, value.boxed);
     finish_entry(bank, pass, o, table, counts.count, called, said)
 }

@@ -8,6 +8,7 @@ mod fresh;
 mod gone;
 mod growth;
 mod keys;
+mod naming;
 mod placing;
 mod room;
 
@@ -15,5 +16,5 @@ pub use crate::counts::{COUNT, Counts, FILL, NEXT, read_counts};
 pub use crate::filling::{Growth, blank, fill, move_entries};
 pub use crate::fresh::{FreshWords, read_stored};
 pub use crate::growth::{begin_in, drop_old};
-pub use crate::keys::{add_key, class_wanted, most_keys};
+pub use crate::keys::{add_held, add_key, class_wanted, most_keys};
 pub use crate::placing::{put_counts, put_key};

@@ -19,6 +19,7 @@ ghost use Rattle.ft_bank.specs.PassSections.{stack_of};
 ghost use Rattle.ft_bank.specs.TableNames.{table_id};
 ghost use Rattle.ft_bank.specs.SameBoxes.{SameReferences};
 ghost use Rattle.ft_bank.specs.Whole.{OnlyPut, OnlyWritten};
+ghost use Rattle.ft_boxes.specs.References.{KeepsValues};
 ghost use Rattle.ft_new_keys.specs.Placing.{counted};
 ghost use Rattle.ft_new_keys.specs.Internal.Laying.{IsUnused, laid, with_entry, with_pair};
 ghost use Rattle.ft_search.specs.TableWords.{CanLoad, MadeAccess, MayMake, MayPutAny, SamePlace};
@@ -47,6 +48,7 @@ pub fn put_counts(
     ensures writes { WritesEntries (shape_of bank.now) o table (view pass.new) }
     ensures only { OnlyPut o (view pass.old) (view pass.new) }
     ensures references { SameReferences (view pass.old) (view pass.new) }
+    ensures values { KeepsValues (view pass.old) (view pass.new) }
     ensures words { held_unboxed o (view pass.new) ≡ record {
       block = counted (held_unboxed o (view pass.old)).block count fill next;
       table = (held_unboxed o (view pass.old)).table;
@@ -76,6 +78,7 @@ fn place_in(words: &mut TableWords<'_>, slot: u64, place: u64, pair: &Pair)
     ensures can { CanLoad words.new }
     ensures only { OnlyPut words.old.o (view words.old.pass.now) (view words.new.pass.now) }
     ensures references { SameReferences (view words.old.pass.now) (view words.new.pass.now) }
+    ensures values { KeepsValues (view words.old.pass.now) (view words.new.pass.now) }
     ensures words { held_unboxed words.old.o (view words.new.pass.now) ≡ record {
       block = (held_unboxed words.old.o (view words.old.pass.now)).block;
       table = laid (slots (class_of (table_id words.old.table))) (place_puts slot place (entry_words pair.now))
@@ -100,6 +103,7 @@ fn put_pair(bank: &Bank, pass: &mut Pass, o: u32, table: Table, slot: u64, place
     ensures writes { WritesEntries (shape_of bank.now) o table (view pass.new) }
     ensures only { OnlyWritten o (view pass.old) (view pass.new) }
     ensures references { SameReferences (view pass.old) (view pass.new) }
+    ensures values { KeepsValues (view pass.old) (view pass.new) }
     ensures words { held_unboxed o (view pass.new) ≡ record {
       block = (held_unboxed o (view pass.old)).block;
       table = with_pair (table_id table) slot place pair.now (held_unboxed o (view pass.old));
@@ -145,6 +149,7 @@ pub fn put_key(
     ensures writes { WritesEntries (shape_of bank.now) o table (view pass.new) }
     ensures only { OnlyWritten o (view pass.old) (view pass.new) }
     ensures references { SameReferences (view pass.old) (view pass.new) }
+    ensures values { KeepsValues (view pass.old) (view pass.new) }
     ensures words { held_unboxed o (view pass.new)
         ≡ with_entry (table_id table) slot counts pair.now (held_unboxed o (view pass.old)) }
 {

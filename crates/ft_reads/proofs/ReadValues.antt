@@ -1,22 +1,19 @@
 -- Values that are read of a container's table, through boxes where they name one.
-use Rattle.std.proofs.Common.{◌≡◌, ◌≢◌, ℕ, suc, ◌<◌, Bool, true, false, true≢false, List, [], ◌∷◌, ◌++◌, length, refl, sym, ap, ◌∙◌, subst, inl, inr, arith}
+use Rattle.std.proofs.Common.{◌≡◌, ◌≢◌, ℕ, suc, ◌<◌, Bool, true, false, List, [], ◌∷◌, ◌++◌, length, refl, sym, ap, ◌∙◌, inl, inr, arith}
 use Rattle.std.specs.Prelude.{slice_index}
-use mathlib.Core.Logic.{dite}
-use native.Mathlib.Decide.{ℕ_discrete}
 use Rattle.ft_model.specs.declared.script.Kind.{Kind}
 use Rattle.ft_trace.specs.declared.Act.{Act}
 use Rattle.ft_trace.specs.declared.Act.TheVariants.{ReadTable, ReadBox}
 use Rattle.ft_trace.specs.declared.Shape.{Shape}
-use Rattle.ft_trace.specs.Addresses.{class_of, size, IsBoxName, IsTableName}
+use Rattle.ft_trace.specs.Addresses.{class_of, size, IsTableName}
 use Rattle.ft_trace.specs.Boxes.{value_at, names_box_at, named_in_root}
 use Rattle.ft_trace.specs.ContainerStates.{kind_in}
 use Rattle.ft_trace.specs.Kinds.{rows}
-use Rattle.ft_trace.specs.LoggedReads.{Among}
 use Rattle.ft_trace.specs.Pictures.{ContainerWords, root_in}
-use Rattle.ft_trace.specs.Unboxed.{unboxed, unboxed_kind, unboxed_payload, unboxed_table}
+use Rattle.ft_trace.specs.Unboxed.{unboxed, unboxed_kind, unboxed_payload}
 use Rattle.ft_trace.proofs.Cases.{here, miss}
 use Rattle.ft_trace.proofs.PlainPuts.{by_root}
-use Rattle.ft_trace.proofs.ReadTables.{rows_at, rows_long}
+use Rattle.ft_trace.proofs.ReadTables.{rows_at}
 use Rattle.ft_trace.proofs.Sums.{sum_at}
 use Rattle.ft_trace.proofs.Unboxed.{named_row}
 use Rattle.ft_search.specs.Boxed.{box_acts, SeesValue}

@@ -1,5 +1,5 @@
 -- Calls that put a table in the place of the one that a dict or a set has, and what a pass needs for them.
-use Rattle.std.specs.Prelude.{◌≡◌, ℕ, zero, suc, ◌+◌, true, false, List, Option, Some, None, slice_set}
+use Rattle.std.specs.Prelude.{◌≡◌, ℕ, true, false, Option, Some, None}
 use Rattle.std.specs.Option.{option_map_or}
 use Rattle.ft_model.specs.declared.call.Call.{Call}
 use Rattle.ft_model.specs.declared.content.Content.{Content}
@@ -13,7 +13,6 @@ use Rattle.ft_trace.specs.declared.Shape.{Shape}
 use Rattle.ft_trace.specs.declared.View.{View}
 use Rattle.ft_trace.specs.FitCalls.{FitsCall}
 use Rattle.ft_trace.specs.BegunSections.{HasLocksOf}
-use Rattle.ft_trace.specs.Pictures.{entry_offset}
 use Rattle.ft_trace.specs.ContainerStates.{state_at, changes, may_empty}
 use Rattle.ft_bank.specs.Whole.{OnlyLoaded}
 use Rattle.ft_bank.specs.WriteSteps.{MayHave}

@@ -15,7 +15,7 @@ use Rattle.ft_history.proofs.HistoryPlaces.{take_next}
 use Rattle.ft_trace.specs.Boxes.{HasMergedBoxes}
 use Rattle.ft_trace.specs.declared.View.{View}
 use Rattle.ft_trace.specs.declared.Presence.TheVariants as presence
-use Rattle.ft_trace.specs.Acts.{announces, seen_writes, presence_of}
+use Rattle.ft_trace.specs.Acts.{announces, presence_of}
 use Rattle.ft_bank.specs.declared.tokens.Tokens.{Tokens}
 use Rattle.ft_bank.specs.Passes.{shape_of, view}
 use Rattle.ft_bank.specs.PassSections.{stack_of}
@@ -35,9 +35,7 @@ use Rattle.ft_engine.specs.Visits.{SameCallerWork}
 use Rattle.ft_turns.specs.Ends.{after_turns}
 use Rattle.ft_turns.specs.Orders.{Machine, awaited_by, next_call, ready_call, thread_at}
 use Rattle.ft_turns.proofs.TurnParts.{ready_none}
-use Rattle.ft_turn_laws.specs.Ordered.{AreAnswersInOrder}
-use Rattle.ft_turn_laws.specs.LockOwners.{owners_in}
-use Rattle.ft_turn_laws.specs.Standing.{AreAsMachine, Standing, standing_of}
+use Rattle.ft_turn_laws.specs.Standing.{Standing, standing_of}
 use Rattle.ft_turn_laws.specs.Turns.{AreInStep, IsTurnOf}
 use Rattle.ft_turn_laws.proofs.InStep.{learns_are_turns, tries_are_turns}
 use Rattle.ft_turn_laws.proofs.LearnedTurns.{spent_turns}

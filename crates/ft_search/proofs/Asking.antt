@@ -113,7 +113,7 @@ contended_after v w k o key a b part same loaded looks own stops =
 
 -- a reply that is right, with its cause, in each stored world that the bank may have
 pub held_shown : (v u : View) (n : ℕ) → OnlyLoaded v u → 0 < v.left → (called : Call) (said : Reply) → is_write called said ≡ false → moved_cursor called ≡ None → ((stored : StoredWorld) → MayHave (view_after (ReadCounter n) u) stored → IsReplied called said (reply_in stored called))
-    → ((stored : StoredWorld) → HasCause stored (ReadCounter n ∷ u.log) called said n) → IsShown (view_after (ReadCounter n) u) called said n
+    → ((stored : StoredWorld) → HasCause stored (view_after (ReadCounter n) u) called said n) → IsShown (view_after (ReadCounter n) u) called said n
 held_shown v u n loaded left called said reads none right cause =
     replies_under_locks_are_shown (view_after (ReadCounter n) u) called said n (record { left = subst (λ (z : ℕ). 0 < z) (sym loaded.work.left) left; newer = []; rest = u.log; is = refl; own = tt; locks = tt }) reads none
     (λ stored may. (right stored may, cause stored))

@@ -90,7 +90,7 @@ pub record IsPlain (called : Call) (said : Reply) : Type 0 where
   pub adds : can_add called ≡ false
   pub memory : is_memory said ≡ false
   pub replied : (plain : Reply) → said ≡ plain → IsReplied called said plain
-  pub cause : (stored : StoredWorld) (log : List Act) (n : ℕ) → HasCause stored log called said n
+  pub cause : (stored : StoredWorld) (w : View) (n : ℕ) → HasCause stored w called said n
 
 pub len_plain : (kind : Kind) (o count : ℕ) → IsPlain (len_of kind o) (reply.Count count)
 len_plain kind.Dict o count = record { reads = refl; cursor = refl; adds = refl; memory = refl; replied = λ plain is. inr is; cause = λ stored log n. refl }
@@ -179,4 +179,4 @@ len_held v u called o count n loaded left low mine is counts =
     let kept : state_at stored o ≡ known_state o v = may.agrees o (subst (λ (k : Shape). o < container_count k) (sym loaded.work.pass.shape) low) (loaded.work.pass.locks o ∙ mine) ∙ work_knows v u o loaded.work in
     plain.replied (reply_in stored (len_of kind o)) (ap reply.Count (counts ∙ ap (λ (z : ContainerState). length_of z.content) (sym kept)) ∙ sym (len_replied kind stored o kinds)) in
     subst (λ (z : Call). IsShown w z (reply.Count count) n) (sym is)
-    (held_shown v u n loaded left (len_of kind o) (reply.Count count) plain.reads plain.cursor right (λ stored. plain.cause stored (ReadCounter n ∷ u.log) n))
+    (held_shown v u n loaded left (len_of kind o) (reply.Count count) plain.reads plain.cursor right (λ stored. plain.cause stored (view_after (ReadCounter n) u) n))

@@ -17,6 +17,8 @@ pub mod Unboxing
 pub mod Owning
 pub mod Overs
 pub mod ValueLoads
+pub mod Keeping
+pub mod NamedEntries
 pub mod Exchanging
 pub mod SearchedReads
 pub mod HitBoxes

@@ -49,7 +49,7 @@ use Rattle.ft_bank.specs.BoxSteps.{IsOpenValue}
 use Rattle.ft_bank.specs.SameBoxes.{HoldsFew}
 use Rattle.ft_bank.specs.Whole.{OnlyPut}
 use Rattle.ft_bank.specs.WriteSteps.{IsCareful, with_table}
-use Rattle.ft_search.specs.OneEntryWrites.{HasTable, IsLiveEntry, MayWriteEntries, raised_at, with_value_at}
+use Rattle.ft_search.specs.OneEntryWrites.{KnowsEntries, HasTable, IsLiveEntry, MayWriteEntries, raised_at, with_value_at}
 use Rattle.ft_search.proofs.Changing.{Changing, kind_is, live_item, put_at, shut_known, table_version_put}
 use Rattle.ft_search.proofs.Puts.{table_class}
 use Rattle.ft_trace.proofs.LookReplies.{value_said}
@@ -212,13 +212,13 @@ SaysValue table place value x =
     (entry_field (slots (class_of (table_id table))) x.table place 4 ≡ stored_kind (Plain value)) × (entry_field (slots (class_of (table_id table))) x.table place 5 ≡ stored_payload (Plain value))
 
 -- as the pass knows the dict: another value may be put, or it is the value that is there
-pub values_known : ValueLaws → (k : Shape) (o : ℕ) (table : Table) (v : View) → v.shape ≡ k → ∥ IsReachable v ∥₁ → MayWriteEntries k o v → kind_in k.starts o ≡ kind.Dict → HasTable k o table v → (place : ℕ) (key : Key) (value : Value) → FitsStored (Plain value) → IsLiveEntry k o table place key v
+pub values_here : ValueLaws → (k : Shape) (o : ℕ) (table : Table) (v : View) → v.shape ≡ k → ∥ IsReachable v ∥₁ → KnowsEntries k o v → kind_in k.starts o ≡ kind.Dict → HasTable k o table v → (place : ℕ) (key : Key) (value : Value) → FitsStored (Plain value) → IsLiveEntry k o table place key v
     → ((SaysValue table place value (held_unboxed o v) → ⊥) → Changing k.texts (table_id table) (held_unboxed o v) (known_state o v) place (value_puts (slots (class_of (table_id table))) (held_unboxed o v).table place None value) (record { content = with_value_at (known_state o v).content key value; table = (known_state o v).table }))
     × (SaysValue table place value (held_unboxed o v) → with_value_at (known_state o v).content key value ≡ (known_state o v).content)
-values_known laws k o table v shape possible may is has place key value fits entry =
+values_here laws k o table v shape possible may is has place key value fits entry =
     by (known_state o v).content (known_state o v).table (kind_is k v o shape possible may.locked ∙ is) may.stands
     (subst (λ (z : Kind). place < rows z (class_of (table_id table))) is entry.low)
-    (shut_known k v o (table_id table) shape possible may.container may.locked (may.even o) has.root)
+    (shut_known k v o (table_id table) shape possible may.container may.locked may.even has.root)
   where
     by : (d : Content) (u : TableUse) → kind_of d ≡ kind.Dict → Represents k.texts (held_unboxed o v) (record { content = d; table = u }) → place < rows kind.Dict (class_of (table_id table)) → Shut (version_at (kind_of d) (class_of (table_id table))) (rows (kind_of d) (class_of (table_id table))) (held_unboxed o v).table
         → ((SaysValue table place value (held_unboxed o v) → ⊥) → Changing k.texts (table_id table) (held_unboxed o v) (record { content = d; table = u }) place (value_puts (slots (class_of (table_id table))) (held_unboxed o v).table place None value) (record { content = with_value_at d key value; table = u }))
@@ -235,6 +235,12 @@ values_known laws k o table v shape possible may is has place key value fits ent
     by (content.Set elements) u e stands low shut = absurd (cc)
     by (content.List values) u e stands low shut = absurd (cc)
     by (content.Deque deque) u e stands low shut = absurd (cc)
+
+pub values_known : ValueLaws → (k : Shape) (o : ℕ) (table : Table) (v : View) → v.shape ≡ k → ∥ IsReachable v ∥₁ → MayWriteEntries k o v → kind_in k.starts o ≡ kind.Dict → HasTable k o table v → (place : ℕ) (key : Key) (value : Value) → FitsStored (Plain value) → IsLiveEntry k o table place key v
+    → ((SaysValue table place value (held_unboxed o v) → ⊥) → Changing k.texts (table_id table) (held_unboxed o v) (known_state o v) place (value_puts (slots (class_of (table_id table))) (held_unboxed o v).table place None value) (record { content = with_value_at (known_state o v).content key value; table = (known_state o v).table }))
+    × (SaysValue table place value (held_unboxed o v) → with_value_at (known_state o v).content key value ≡ (known_state o v).content)
+values_known laws k o table v shape possible may is has place key value fits entry =
+    values_here laws k o table v shape possible (record { container = may.container; keyed = may.keyed; locked = may.locked; even = may.even o; stands = may.stands }) is has place key value fits entry
 
 -- ---- the puts, one after the other
 

@@ -16,7 +16,7 @@ use Rattle.ft_trace.specs.declared.Snap.{Snap}
 use Rattle.ft_trace.specs.declared.View.{View}
 use Rattle.ft_trace.specs.Acts.{has_lock, is_writing, has_emptied, owes, view_after, seen_writes}
 use Rattle.ft_trace.specs.Addresses.{container_count, class_of, slots}
-use Rattle.ft_trace.specs.Boxes.{place_use, references_held, use_taken, IsSettled}
+use Rattle.ft_trace.specs.Boxes.{place_use, references_held, use_taken, IsSettled, StoresTaken}
 use Rattle.ft_trace.specs.Holds.{held_words, held_unboxed, known_state}
 use Rattle.ft_trace.specs.Kinds.{rows, version_at, CarefulAs, ClearAs, IsKeyed, under}
 use Rattle.ft_trace.specs.OddVersions.{Shut, Timely}
@@ -32,7 +32,7 @@ use Rattle.ft_bank.specs.TableNames.{table_id}
 use Rattle.ft_bank.specs.WriteSteps.{Committed, IsCareful, IsShut, MayCommit, MayHave}
 use Rattle.ft_bank.specs.Whole.{OnlyPut, OnlyWritten, EndsWrite, Wrote}
 use Rattle.ft_bank.proofs.KnownAfterWrites.{work_knows, put_same, put_written, plain_write, write_ends}
-use Rattle.ft_search.specs.OneEntryWrites.{HasTable, Leaves, MayFinish, MayWriteEntries, WritesEntries, raised_at}
+use Rattle.ft_search.specs.OneEntryWrites.{HasTable, Leaves, MayBeginEntries, MayFinish, MayWriteEntries, WritesEntries, raised_at}
 use Rattle.ft_search.proofs.Calling.{plain_replied}
 use Rattle.ft_search.proofs.Changing.{Changing}
 use Rattle.ft_search.proofs.Puts.{entry_refs, few_done, shut_reads}
@@ -47,7 +47,7 @@ module _ (o : ℕ) (v s u : View) (f : ℕ) (begun : s ≡ view_after (StartWrit
   same_shape : u.shape ≡ v.shape
   same_shape = puts.work.pass.shape ∙ ap (λ (z : View). z.shape) begun
 
-  has_before : (stored : StoredWorld) → MayHave u stored → MayHave v stored
+  pub has_before : (stored : StoredWorld) → MayHave u stored → MayHave v stored
   has_before stored has = record {
     agrees = λ p low mine. has.agrees p (subst (λ (z : Shape). p < container_count z) (sym same_shape) low) (puts.work.pass.locks p ∙ (ap (λ (z : View). has_lock p z.log) begun ∙ mine)) ∙ same_known p;
     containers = has.containers ∙ ap container_count same_shape;
@@ -71,10 +71,10 @@ module _ (o : ℕ) (v s u : View) (f : ℕ) (begun : s ≡ view_after (StartWrit
   }
 
   -- where its words say what it leaves, it may be committed
-  pub may_commit : (called : Call) (said : Reply) (left : ContainerState) → Leaves o called said left v → o < container_count v.shape → 0 < v.left → owes v.log ≡ 0 → ((b : ℕ) → place_use b v.log ≢ use_taken)
+  pub commits_storing : (called : Call) (said : Reply) (left : ContainerState) → Leaves o called said left v → o < container_count v.shape → 0 < v.left → owes v.log ≡ 0 → ((stored : StoredWorld) → MayHave u stored → StoresTaken u.shape stored.world u.log called)
       → ((t : ℕ) → root_in (held_unboxed o u) ≡ suc t → ClearAs (kind_in v.shape.starts o) v.shape.texts (class_of t) (held_unboxed o u).table (known_state o v).content left.content)
       → MayCommit u called said
-  may_commit called said left l low some none untaken clear =
+  commits_storing called said left l low some none stores clear =
       let late = leaves_later called said left l in
       let odd : is_writing o u.log ≡ true = puts.work.pass.writes o ∙ (ap (λ (z : View). is_writing o z.log) begun ∙ hit o true (is_writing o v.log)) in
       let empty : has_emptied o u.log ≡ false = puts.work.emptied o ∙ (ap (λ (z : View). has_emptied o z.log) begun ∙ hit o false (has_emptied o v.log)) in
@@ -82,7 +82,6 @@ module _ (o : ℕ) (v s u : View) (f : ℕ) (begun : s ≡ view_after (StartWrit
       let clears : (stored : StoredWorld) (t : ℕ) → MayHave u stored → root_in (held_unboxed o u) ≡ suc t → ClearAs (kind_in u.shape.starts o) u.shape.texts (class_of t) (held_unboxed o u).table (known_state o u).content (state_at (after_stored stored called) o).content =
       λ stored t has names. subst (λ (z : Shape × ContainerState × ContainerState). ClearAs (kind_in z.0.starts o) z.0.texts (class_of t) (held_unboxed o u).table z.1.content z.2.content)
       (sym (λ d. (same_shape d, same_known o d, late.left_is stored has d))) (clear t names) in
-      let still : (b : ℕ) → place_use b u.log ≢ use_taken = λ b e. untaken b (ap (λ (z : View). place_use b z.log) (sym begun) ∙ puts.made.places b e) in
       let at : o ≡ changes called = sym l.changed in
       record {
         write = l.write;
@@ -97,8 +96,21 @@ module _ (o : ℕ) (v s u : View) (f : ℕ) (begun : s ≡ view_after (StartWrit
         takes = λ stored class has e. absurd (omega (arith, e, owed));
         locks = late.locks;
         empties = λ e. absurd (true≢false (sym e ∙ subst (λ (n : ℕ). has_emptied n u.log ≡ false) at empty));
-        stores = λ stored has. ((λ b e. absurd (still b e)), (λ b c e other. absurd (still b e)));
+        stores = stores;
       }
+
+  -- a place that the pass has taken then it had taken before
+  pub taken_before : (b : ℕ) → place_use b u.log ≡ use_taken → place_use b v.log ≡ use_taken
+  taken_before b e = ap (λ (z : View). place_use b z.log) (sym begun) ∙ puts.made.places b e
+
+  -- where it had taken none, the call has no box to store
+  pub stores_none : ((b : ℕ) → place_use b v.log ≢ use_taken) → (called : Call) (stored : StoredWorld) → StoresTaken u.shape stored.world u.log called
+  stores_none none called stored = ((λ b e. absurd (none b (taken_before b e))), (λ b c e other. absurd (none b (taken_before b e))))
+
+  pub may_commit : (called : Call) (said : Reply) (left : ContainerState) → Leaves o called said left v → o < container_count v.shape → 0 < v.left → owes v.log ≡ 0 → ((b : ℕ) → place_use b v.log ≢ use_taken)
+      → ((t : ℕ) → root_in (held_unboxed o u) ≡ suc t → ClearAs (kind_in v.shape.starts o) v.shape.texts (class_of t) (held_unboxed o u).table (known_state o v).content left.content)
+      → MayCommit u called said
+  may_commit called said left l low some none untaken clear = commits_storing called said left l low some none (λ stored has. stores_none untaken called stored) clear
 
   pub whole_root : (called : Call) (said : Reply) (number : ℕ) (w : View) → changes called ≡ o → EndsWrite called said number u w → root_in (held_unboxed o u) ≡ root_in (held_unboxed o v) → root_in (held_unboxed o w) ≡ root_in (held_unboxed o v)
   whole_root called said number w changed ends root = subst (λ (n : ℕ). root_in (held_unboxed n w) ≡ root_in (held_unboxed n u)) changed ends.root ∙ root
@@ -228,8 +240,9 @@ module _ (k : Shape) (o : ℕ) (v s : View) (f : ℕ) (may : MayWriteEntries k o
 
 -- ---- a write that changes one entry
 
-module _ (k : Shape) (o : ℕ) (table : Table) (v s u : View) (f : ℕ) (may : MayWriteEntries k o v) (shape : v.shape ≡ k) (begun : s ≡ view_after (StartWrite o f) v) (only : OnlyWritten o s u) (place : ℕ) (early : List Put) (left : ContainerState) (change : Changing k.texts (table_id table) (held_unboxed o v) (known_state o v) place early left)
-    (kind_eq : kind_of (known_state o v).content ≡ kind_in k.starts o) (words : held_unboxed o u ≡ with_puts (held_unboxed o v) early) (root : root_in (held_unboxed o u) ≡ suc (table_id table)) (called : Call) (said : Reply) (leaves : Leaves o called said left v) where
+module _ (k : Shape) (o : ℕ) (table : Table) (v s u : View) (f : ℕ) (may : MayBeginEntries k o v) (shape : v.shape ≡ k) (begun : s ≡ view_after (StartWrite o f) v) (only : OnlyWritten o s u) (place : ℕ) (early : List Put) (left : ContainerState) (change : Changing k.texts (table_id table) (held_unboxed o v) (known_state o v) place early left)
+    (kind_eq : kind_of (known_state o v).content ≡ kind_in k.starts o) (words : held_unboxed o u ≡ with_puts (held_unboxed o v) early) (root : root_in (held_unboxed o u) ≡ suc (table_id table)) (called : Call) (said : Reply) (leaves : Leaves o called said left v)
+    (stores : (stored : StoredWorld) → MayHave u stored → StoresTaken u.shape stored.world u.log called) where
   abbrev c' : ℕ
   c' = class_of (table_id table)
 
@@ -256,7 +269,7 @@ module _ (k : Shape) (o : ℕ) (table : Table) (v s u : View) (f : ℕ) (may : M
 
   pub entry_finishes : MayFinish o table place called said u
   entry_finishes = record {
-    may = may_commit o v s u f begun only called said left leaves low'' may.left may.owes may.boxes.stored clears;
+    may = commits_storing o v s u f begun only called said left leaves low'' may.left may.owes stores clears;
     changed = leaves.changed;
     left = left;
     left_is = (leaves_later o v s u f begun only called said left leaves).left_is;
@@ -269,15 +282,32 @@ module _ (k : Shape) (o : ℕ) (table : Table) (v s u : View) (f : ℕ) (may : M
 pub settled_begun : (o : ℕ) (v s : View) (f : ℕ) → s ≡ view_after (StartWrite o f) v → IsSettled v.log → IsSettled s.log
 settled_begun o v s f begun x = subst (λ (z : View). IsSettled z.log) (sym begun) (record { unmade = x.unmade; counted = x.counted; whole = x.whole; given = x.given })
 
+-- who may write the container may begin to
+pub begins_entries : (k : Shape) (o : ℕ) (v : View) → v.shape ≡ k → MayWriteEntries k o v → MayBeginEntries k o v
+begins_entries k o v shape may = record {
+  container = may.container;
+  keyed = may.keyed;
+  locked = may.locked;
+  even = may.even;
+  stands = may.stands;
+  owes = may.owes;
+  settled = may.boxes.settled;
+  few = few_done k v shape may.boxes;
+  left = may.left;
+}
+
 -- the pass writes the container once it has begun
-pub writes_begun : (k : Shape) (o : ℕ) (table : Table) (v s : View) (f : ℕ) → v.shape ≡ k → s ≡ view_after (StartWrite o f) v → MayWriteEntries k o v → HasTable k o table v → WritesEntries k o table s
-writes_begun k o table v s f shape begun may has = record {
+pub begun_writes : (k : Shape) (o : ℕ) (table : Table) (v s : View) (f : ℕ) → s ≡ view_after (StartWrite o f) v → MayBeginEntries k o v → HasTable k o table v → WritesEntries k o table s
+begun_writes k o table v s f begun may has = record {
   container = may.container;
   keyed = may.keyed;
   table_in = has.table_in;
   locked = ap (λ (z : View). has_lock o z.log) begun ∙ may.locked;
   odd = ap (λ (z : View). is_writing o z.log) begun ∙ hit o true (is_writing o v.log);
   root = ap (λ (z : View). root_in (held_unboxed o z)) begun ∙ has.root;
-  settled = settled_begun o v s f begun may.boxes.settled;
-  few = λ b. subst (λ (n : ℕ). n < 2 ^ 31) (sym (ap (λ (z : View). references_held z.shape b z.log) begun)) (few_done k v shape may.boxes b);
+  settled = settled_begun o v s f begun may.settled;
+  few = λ b. subst (λ (n : ℕ). n < 2 ^ 31) (sym (ap (λ (z : View). references_held z.shape b z.log) begun)) (may.few b);
 }
+
+pub writes_begun : (k : Shape) (o : ℕ) (table : Table) (v s : View) (f : ℕ) → v.shape ≡ k → s ≡ view_after (StartWrite o f) v → MayWriteEntries k o v → HasTable k o table v → WritesEntries k o table s
+writes_begun k o table v s f shape begun may has = begun_writes k o table v s f begun (begins_entries k o v shape may) has

@@ -10,3 +10,4 @@ pub mod SearchCosts
 pub mod Stays
 pub mod Floors
 pub mod Boxed
+pub mod HeldValues

@@ -29,7 +29,7 @@ pub record IsShownBy (called : Call) (said : Reply) (v : View) : Type 0 where
   pub cursor : moved_cursor called ≡ None
   pub plain : (stored : StoredWorld) → reply_in stored called ≡ said → IsReplied called said (reply_in stored called)
   pub replied : IsReplyTo called said v
-  pub cause : (stored : StoredWorld) (log : List Act) (n : ℕ) → HasCause stored log called said n
+  pub cause : (stored : StoredWorld) (w : View) (n : ℕ) → HasCause stored w called said n
 
 -- no table came into the pass's hands, and none left them; it holds the same references of boxes (profile)
 pub record KeepsTables (v w : View) : Type 0 where

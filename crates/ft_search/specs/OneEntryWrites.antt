@@ -55,6 +55,19 @@ pub record MayWriteEntries (k : Shape) (o : ℕ) (v : View) : Type 0 where
   pub boxes : IsDoneWithBoxes k v.log
   pub left : 0 < v.left
 
+-- It may begin a write of the container o: the same, but that it may hold few references for boxes, and may have made
+-- boxes, where what it has to do with them is settled. (profile)
+pub record MayBeginEntries (k : Shape) (o : ℕ) (v : View) : Type 0 where
+  pub container : o < container_count k
+  pub keyed : IsKeyed (kind_in k.starts o)
+  pub locked : has_lock o v.log ≡ true
+  pub even : (p : ℕ) → is_writing p v.log ≡ false
+  pub stands : Represents k.texts (held_unboxed o v) (known_state o v)
+  pub owes : owes v.log ≡ 0
+  pub settled : IsSettled v.log
+  pub few : HoldsFew v
+  pub left : 0 < v.left
+
 -- the root of the container names this table
 pub record HasTable (k : Shape) (o : ℕ) (table : Table) (v : View) : Type 0 where
   pub table_in : IsTableIn k table

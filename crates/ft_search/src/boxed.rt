@@ -14,6 +14,7 @@ ghost use Rattle.ft_bank.specs.Series.{DidAll};
 ghost use Rattle.ft_bank.specs.TableNames.{table_id, IsPlaceOf};
 ghost use Rattle.ft_bank.specs.Whole.{OnlyBoxed, OnlyLoaded, OnlyPut, OnlyWritten};
 ghost use Rattle.ft_bank.specs.WriteSteps.{with_table};
+ghost use Rattle.ft_boxes.specs.References.{KeepsValues};
 ghost use Rattle.ft_search.specs.Boxed.{IsKnownBox, NamedAreKnown, SeesKnown, SeesValue, WritesTable, box_acts};
 ghost use Rattle.ft_search.specs.KeyLooks.{AreLooks};
 ghost use Rattle.ft_search.specs.SearchCosts.{index_reads};
@@ -132,6 +133,7 @@ pub fn release(bank: &Bank, pass: &mut Pass, payload: u64)
     ensures only { OnlyBoxed (view pass.old) (view pass.new) }
     ensures settled { IsSettled (view pass.new).log }
     ensures places { TakesNoPlace (view pass.old) (view pass.new) }
+    ensures values { KeepsValues (view pass.old) (view pass.new) }
     ensures references { (b : ℕ) → references_held (shape_of bank.now) b (view pass.old).log ≡
         references_held (shape_of bank.now) b (view pass.new).log + cond (b == payload) 1 0 }
 {
@@ -171,6 +173,7 @@ pub fn put_over(
     ensures references { (b : ℕ) →
         references_held (shape_of bank.now) b (view pass.new).log + names_box b kind payload ≡
         references_held (shape_of bank.now) b (view pass.old).log }
+    ensures values { KeepsValues (view pass.old) (view pass.new) }
 {
     let old = bank.read_word(pass, table, start, word);
     if old == kind && kind != BOX_KIND {
@@ -244,6 +247,7 @@ pub fn put_unboxed(bank: &Bank, pass: &mut Pass, o: u32, table: Table, start: u6
     ensures raw { slice_index (held_words o (view pass.new)).table word ≢ box_kind }
     ensures words { held_unboxed o (view pass.new) ≡ held_unboxed o (view pass.old) }
     ensures references { SameReferences (view pass.old) (view pass.new) }
+    ensures values { KeepsValues (view pass.old) (view pass.new) }
 {
     let old = bank.read_word(pass, table, start, word);
     if old != BOX_KIND {

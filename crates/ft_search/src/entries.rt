@@ -2,7 +2,7 @@
 //! each put is one that readers without the lock aren't misled by.
 ghost use Rattle.std.specs.Prelude.{◌≡◌, ◌≢◌, ℕ, suc, ◌+◌, ◌*◌, ◌<◌, true};
 ghost use Rattle.ft_trace.specs.Addresses.{class_of, slots};
-ghost use Rattle.ft_trace.specs.Holds.{held_unboxed};
+ghost use Rattle.ft_trace.specs.Holds.{held_words, held_unboxed};
 ghost use Rattle.ft_trace.specs.Kinds.{rows};
 ghost use Rattle.ft_trace.specs.Pictures.{entry_offset, entry_field};
 ghost use Rattle.ft_trace.specs.ContainerStates.{kind_in};
@@ -12,6 +12,7 @@ ghost use Rattle.ft_bank.specs.SameBoxes.{SameReferences};
 ghost use Rattle.ft_bank.specs.TableNames.{table_id, IsPlaceOf};
 ghost use Rattle.ft_bank.specs.Whole.{OnlyLoaded, OnlyPut};
 ghost use Rattle.ft_bank.specs.WriteSteps.{IsCareful, with_table};
+ghost use Rattle.ft_search.specs.Boxed.{KeepsOwn};
 ghost use Rattle.ft_search.specs.OneEntryWrites.{WritesEntries, raised_at};
 
 use crate::tables::mask_of;
@@ -82,6 +83,9 @@ pub(crate) fn put_entry(
     ensures references { SameReferences (view pass.old) (view pass.new) }
     ensures words { held_unboxed o (view pass.new)
         ≡ with_table (held_unboxed o (view pass.old)) (entry_offset (slots (class_of (table_id table))) place word) value }
+    ensures raw { held_words o (view pass.new)
+        ≡ with_table (held_words o (view pass.old)) (entry_offset (slots (class_of (table_id table))) place word) value }
+    ensures own { KeepsOwn (view pass.old) (view pass.new) }
 {
     let at = word_at(mask_of(table.class), place, word);
     bank.put_word(pass, o, table, start, at, value);
@@ -100,6 +104,8 @@ pub fn raise_version(bank: &Bank, pass: &mut Pass, o: u32, table: Table, place: 
     ensures only { OnlyPut o (view pass.old) (view pass.new) }
     ensures references { SameReferences (view pass.old) (view pass.new) }
     ensures words { held_unboxed o (view pass.new) ≡ raised_at (table_id table) place (held_unboxed o (view pass.old)) }
+    ensures raw { held_words o (view pass.new) ≡ raised_at (table_id table) place (held_words o (view pass.old)) }
+    ensures own { KeepsOwn (view pass.old) (view pass.new) }
 {
     let start = bank.cell_of(table);
     raise_at(bank, pass, o, table, start, place);
@@ -119,6 +125,8 @@ pub(crate) fn raise_at(bank: &Bank, pass: &mut Pass, o: u32, table: Table, start
     ensures only { OnlyPut o (view pass.old) (view pass.new) }
     ensures references { SameReferences (view pass.old) (view pass.new) }
     ensures words { held_unboxed o (view pass.new) ≡ raised_at (table_id table) place (held_unboxed o (view pass.old)) }
+    ensures raw { held_words o (view pass.new) ≡ raised_at (table_id table) place (held_words o (view pass.old)) }
+    ensures own { KeepsOwn (view pass.old) (view pass.new) }
 {
     let version = read_entry(bank, pass, o, table, start, place, entry_word::VERSION);
     put_entry(

@@ -1,8 +1,9 @@
 //! The end of a write of a dict or a set: the counter is raised, which is the write, and then the versions
 //! are made even again.
-ghost use Rattle.std.specs.Prelude.{◌≡◌, ◌<◌};
+ghost use Rattle.std.specs.Prelude.{◌≡◌, ◌≢◌, ℕ, ◌<◌};
 ghost use Rattle.ft_trace.specs.Addresses.{class_of};
-ghost use Rattle.ft_trace.specs.Holds.{held_unboxed, known_state};
+ghost use Rattle.ft_trace.specs.Boxes.{place_use, use_taken};
+ghost use Rattle.ft_trace.specs.Holds.{held_words, held_unboxed, known_state};
 ghost use Rattle.ft_trace.specs.Kinds.{rows};
 ghost use Rattle.ft_trace.specs.Pictures.{root_in};
 ghost use Rattle.ft_trace.specs.ContainerStates.{kind_in};
@@ -11,7 +12,7 @@ ghost use Rattle.ft_bank.specs.PassSections.{stack_of};
 ghost use Rattle.ft_bank.specs.SameBoxes.{SameReferences};
 ghost use Rattle.ft_bank.specs.TableNames.{table_id};
 ghost use Rattle.ft_bank.specs.Whole.{EndsWrite, Wrote};
-ghost use Rattle.ft_search.specs.OneEntryWrites.{Leaves, MayFinish, MayWriteEntries, WritesEntries};
+ghost use Rattle.ft_search.specs.OneEntryWrites.{Leaves, MayFinish, MayWriteEntries, WritesEntries, raised_at};
 
 use crate::entries::raise_version;
 use ft_bank::{Bank, Pass, Table};
@@ -37,6 +38,9 @@ pub fn finish_entry(
     ensures stack { stack_of pass.new ≡ stack_of pass.old }
     ensures ends { EndsWrite called.now said.now result (view pass.old) (view pass.new) }
     ensures references { SameReferences (view pass.old) (view pass.new) }
+    ensures words { held_unboxed o (view pass.new) ≡ raised_at (table_id table) place (held_unboxed o (view pass.old)) }
+    ensures raw { held_words o (view pass.new) ≡ raised_at (table_id table) place (held_words o (view pass.old)) }
+    ensures stored { (b : ℕ) → place_use b (view pass.new).log ≢ use_taken }
 {
     let number = bank.commit(pass, called, said);
     raise_version(bank, pass, o, table, place);

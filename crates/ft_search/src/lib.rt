@@ -37,5 +37,5 @@ pub use crate::look::look_up;
 pub use crate::looks::{Looked, answer_held, answer_look};
 pub use crate::spots::{Spot, seek_by, seek_key, spot_of};
 pub use crate::tables::{mask_of, table_at, table_named};
-pub use crate::valuing::{put_value, says_value, set_entry};
+pub use crate::valuing::{put_value, says_value, set_entry, store_entry};
 pub use crate::words::TableWords;

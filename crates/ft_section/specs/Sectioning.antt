@@ -15,12 +15,11 @@ use Rattle.ft_section.specs.declared.answers.Stamp.{Stamp}
 use Rattle.ft_section.specs.declared.answers.Objects.{Objects}
 use Rattle.ft_section.specs.declared.answers.Objects.TheVariants.{One, Two}
 use Rattle.ft_section.specs.LockTakings.{lower_of, upper_of}
-use Rattle.ft_trace.specs.declared.Act.{Act}
 use Rattle.ft_trace.specs.declared.Act.TheVariants.{ReadCounter, Answer}
 use Rattle.ft_trace.specs.declared.View.{View}
 use Rattle.ft_trace.specs.Acts.{view_after}
 use Rattle.ft_trace.specs.Causes.{HasCause}
-use Rattle.std.specs.Prelude.{List, ◌∷◌, length}
+use Rattle.std.specs.Prelude.{length}
 use Rattle.ft_trace.specs.Entries.{IsNumber}
 use Rattle.ft_trace.specs.OwnOrder.{HasWritesOn}
 use Rattle.ft_trace.specs.BegunSections.{Begun}
@@ -44,12 +43,12 @@ ended_by marks s = if marks == 0 then ended.Kept s else ended.Suspended marks s
 abbrev pub answered_view : Call → Reply → ℕ → View → View
 answered_view called said n v = view_after (Answer called said n) (view_after (ReadCounter n) v)
 
--- the call isn't a write and asks no cursor, and a pass with this log may reply so whatever the containers have, at a
+-- the call isn't a write and asks no cursor, and a pass with this view may reply so whatever the containers have, at a
 -- load of the counter
-pub record IsSaid (called : Call) (said : Reply) (log : List Act) : Type 0 where
+pub record IsSaid (called : Call) (said : Reply) (v : View) : Type 0 where
   pub read : is_write called said ≡ false
   pub replied : (plain : Reply) → IsReplied called said plain
-  pub cause : (stored : StoredWorld) (n : ℕ) → HasCause stored (ReadCounter n ∷ log) called said n
+  pub cause : (stored : StoredWorld) (n : ℕ) → HasCause stored (view_after (ReadCounter n) v) called said n
   pub no_cursor : moved_cursor called ≡ None
 
 -- the locks of a call on these containers: the lower one first, and where there is one alone its lock noted once

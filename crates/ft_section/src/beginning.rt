@@ -40,7 +40,7 @@ pub fn new_passes_are_ready(bank: &Bank, pass: &Pass)
 /// The call that begins a section on these containers.
 fn begin_call(objects: Objects) -> Call
     ensures call { result ≡ begin_of objects }
-    ensures said { (log : List Act) → IsSaid result reply.Entered log }
+    ensures said { (v : View) → IsSaid result reply.Entered v }
 {
     match objects {
         Objects::One(first) => Call::Begin {

@@ -9,7 +9,7 @@ ghost use Rattle.ft_section.specs.Floors.{floor_word};
 ghost use Rattle.ft_section.specs.Locking.{OnlyLocked};
 ghost use Rattle.ft_section.specs.Ready.{IsReady, MayResume};
 ghost use Rattle.ft_section.specs.Sectioning.{IsSaid, IsUntouched, ended_by, reply_of, answered_view};
-ghost use Rattle.ft_trace.specs.declared.Act.{Act};
+ghost use Rattle.ft_trace.specs.declared.View.{View};
 ghost use Rattle.ft_trace.specs.Acts.{seen_writes};
 ghost use Rattle.ft_trace.specs.Addresses.{counter};
 ghost use Rattle.ft_trace.specs.Owners.{SameOwners};
@@ -23,7 +23,7 @@ use ft_model::{Call, Reply};
 
 /// What the entry of the `end` of a section says, of whose calls this many had to wait.
 fn end_reply(marks: u32) -> Reply
-    ensures said { (log : List Act) → (marks ≡ 0 → IsInnermostHeld (begun log)) → IsSaid call.End result log }
+    ensures said { (v : View) → (marks ≡ 0 → IsInnermostHeld (begun v.log)) → IsSaid call.End result v }
     ensures reply { (stamp : Stamp) → result ≡ reply_of (ended_by marks stamp) }
 {
     if marks == 0 {

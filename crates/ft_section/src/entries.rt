@@ -14,7 +14,7 @@ use ft_model::{Call, Reply};
 pub(crate) fn make_entry(bank: &Bank, pass: &mut Pass, call: &Call, reply: &Reply) -> u64
     requires pass { IsPassOf bank.now pass.old }
     requires left { 0 < (view pass.old).left }
-    requires said { IsSaid call.now reply.now (view pass.old).log }
+    requires said { IsSaid call.now reply.now (view pass.old) }
     ensures stack { KeepsStack pass.old pass.new }
     ensures view { view pass.new ≡ answered_view call.now reply.now result (view pass.old) }
     ensures seen { seen_writes (view pass.old) ≤ result }

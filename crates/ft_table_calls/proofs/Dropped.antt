@@ -1,5 +1,5 @@
 -- References that a pass holds once it has taken a table out of a root, and what is left of them row by row.
-use Rattle.std.proofs.Common.{◌≡◌, ◌≢◌, ℕ, zero, suc, ◌+◌, ◌/◌, ◌<◌, ◌≤◌, List, refl, sym, ap, ◌∙◌, arith}
+use Rattle.std.proofs.Common.{◌≡◌, ◌≢◌, ℕ, zero, suc, ◌+◌, ◌/◌, ◌<◌, ◌≤◌, List, refl, sym, ap, ◌∙◌, subst, arith}
 use Rattle.std.specs.Prelude.{slice_index}
 use mathlib.Core.Logic.{dite}
 use native.Mathlib.Decide.{ℕ_discrete}
@@ -12,9 +12,14 @@ use Rattle.ft_trace.specs.ContainerStates.{kind_in}
 use Rattle.ft_trace.specs.Holds.{held_words, in_hand}
 use Rattle.ft_trace.specs.Pictures.{table_words, root_in}
 use Rattle.ft_trace.specs.Sums.{sum_to}
+use Rattle.ft_trace.specs.Traces.{IsReachable}
 use Rattle.ft_trace.proofs.Unboxed.{named_row}
+use Rattle.ft_bank.specs.BoxSteps.{box_id, IsBoxIn}
 use Rattle.ft_bank.specs.SameBoxes.{named_in_words, MovesReferences, SameReferences}
 use Rattle.ft_bank.specs.Whole.{OnlyLoaded}
+use Rattle.ft_boxes.specs.References.{HoldsBox, KeepsValues}
+use Rattle.ft_boxes.proofs.Heaps.{names_held}
+use Rattle.ft_boxes.proofs.Steps.{keeps_same}
 use Rattle.ft_table_calls.specs.Dropping.{HoldsNamed}
 
 -- ---- what a pass knows still
@@ -27,6 +32,18 @@ pub held_loaded : (k : Shape) (v w : View) → v.shape ≡ k → OnlyLoaded v w 
 held_loaded k v w shape l b =
     sym (ap (λ (z : Shape). references_held z b w.log) (l.work.pass.shape ∙ shape))
     ∙ (l.boxes.references b ∙ ap (λ (z : Shape). references_held z b v.log) shape)
+
+-- what it knew of the values in boxes for which it holds references it knows after loads
+pub keeps_loads : (v w : View) → ∥ IsReachable v ∥₁ → OnlyLoaded v w → KeepsValues v w
+keeps_loads v w possible l = keeps_same v w (λ b held. names_held v possible b held) l.boxes.knows
+
+-- and after two times, where it held no fewer between them than after
+pub keeps_less : (u v w : View) → v.shape ≡ w.shape → ((c : ℕ) → references_held w.shape c w.log ≤ references_held v.shape c v.log) → KeepsValues u v → KeepsValues v w → KeepsValues u w
+keeps_less u v w shape less first then b value held still knows =
+    let fewer = less (box_id b) in
+    let some_ = still.1 in
+    let mid : HoldsBox b v = (subst (λ (z : Shape). IsBoxIn z b) (sym shape) still.0, omega (arith, fewer, some_)) in
+    then b value mid still (first b value held mid knows)
 
 -- ---- right after another root was put
 

@@ -12,6 +12,7 @@ ghost use Rattle.ft_bank.specs.PassSections.{stack_of};
 ghost use Rattle.ft_bank.specs.SameBoxes.{StaysSettled};
 ghost use Rattle.ft_bank.specs.TableNames.{table_id, IsPlaceOf, IsTableIn};
 ghost use Rattle.ft_bank.specs.Whole.{OnlyBoxed};
+ghost use Rattle.ft_boxes.specs.References.{KeepsValues};
 ghost use Rattle.ft_table_calls.specs.Dropping.{AreValuePlaces, HoldsNamed};
 
 use ft_bank::{Bank, Pass, Table};
@@ -49,6 +50,7 @@ pub fn drop_value(bank: &Bank, pass: &mut Pass, table: Table, start: u64, word: 
     ensures stack { stack_of pass.new ≡ stack_of pass.old }
     ensures only { OnlyBoxed (view pass.old) (view pass.new) }
     ensures made { StaysSettled (view pass.old) (view pass.new) }
+    ensures values { KeepsValues (view pass.old) (view pass.new) }
     ensures references { (b : ℕ) → references_held (shape_of bank.now) b (view pass.old).log ≡
         references_held (shape_of bank.now) b (view pass.new).log
         + names_box b (slice_index (in_hand (table_id table) (view pass.old)) word)

@@ -85,9 +85,9 @@ no_await : (told : List Told) (called : Call) (stamp : ℕ) → ((thread index :
 no_await told (call.Await thread index) stamp none = absurd (none thread index refl)
 no_await told called stamp none = tt
 
-caused : (stored : StoredWorld) (log : List Act) (called : Call) (said plain : Reply) (n : ℕ) → IsReplied called said plain → HasCause stored log called said n → IsAwaitTold (told_in log) called n
-caused stored log (call.Await thread index) said plain n replied cause = subst (λ (z : Reply). HasCause stored log (call.Await thread index) z n) replied cause
-caused stored log called said plain n replied cause = tt
+caused : (stored : StoredWorld) (v : View) (called : Call) (said plain : Reply) (n : ℕ) → IsReplied called said plain → HasCause stored v called said n → IsAwaitTold (told_in v.log) called n
+caused stored v (call.Await thread index) said plain n replied cause = subst (λ (z : Reply). HasCause stored v (call.Await thread index) z n) replied cause
+caused stored v called said plain n replied cause = tt
 
 told_next : (k : Shape) (es : List Event) (v : View) (a : Act) → May k (run k es) (history es) v a → AreAwaitsTold (told_in v.log) v.entries → AreAwaitsTold (told_in (a ∷ v.log)) (entries_next a v.entries)
 told_next k es v (Commit c r f s) may old =
@@ -95,7 +95,7 @@ told_next k es v (Commit c r f s) may old =
     (no_await (told_in v.log) c f (λ thread index is. true≢false (sym may.0 ∙ ap (λ z. is_write z r) is))) old
 told_next k es v (Answer c r n) may old =
     All-cons (λ e. IsAwaitTold (told_in v.log) e.call e.stamp) (record { call = c; reply = r; stamp = n; wrote = false }) v.entries
-    (caused (stored_newest k.starts (first_writes n (history es))) v.log c r (reply_in (stored_newest k.starts (first_writes n (history es))) c) n may.2 may.4) old
+    (caused (stored_newest k.starts (first_writes n (history es))) v c r (reply_in (stored_newest k.starts (first_writes n (history es))) c) n may.2 may.4) old
 told_next k es v (AnswerCursor c r n number had left) may old =
     All-cons (λ e. IsAwaitTold (told_in v.log) e.call e.stamp) (record { call = c; reply = r; stamp = n; wrote = false }) v.entries
     (no_await (told_in v.log) c n (λ thread index is. absurd (let e : None ≡ Some number = sym (ap moved_cursor is) ∙ may.0 in cc))) old

@@ -49,14 +49,14 @@ no_memory called (reply.Raised raised) wrote = absurd (true≢false (sym wrote �
 no_memory called said wrote = refl
 
 -- a cause that a log shows
-cause_earned : (k : Shape) (es : List Event) → Valid k es → (id : ℕ) (v : View) → get_elem? (run k es).views id ≡ some v → (called : Call) (said : Reply) (n : ℕ) → HasCause (stored_newest k.starts (first_writes n (history es))) v.log called said n → IsEarnedSo k (first_writes n (history es)) called said
+cause_earned : (k : Shape) (es : List Event) → Valid k es → (id : ℕ) (v : View) → get_elem? (run k es).views id ≡ some v → (called : Call) (said : Reply) (n : ℕ) → HasCause (stored_newest k.starts (first_writes n (history es))) v called said n → IsEarnedSo k (first_writes n (history es)) called said
 cause_earned k es valid id v at called (reply.Raised (raise.Memory class)) n cause =
     let f = cause.3 in
     let w = was k es valid id v at f.newer (ReadCounter n) (f.mid ++ ReadCount class 0 ∷ f.rest) f.is in
     let z = was k w.older w.valid id w.view w.at f.mid (ReadCount class 0) f.rest w.log in
     (cause.0, cause.1, cause.2, z.may tt, empty_earned k es valid id v at class n (z.may tt) f)
 cause_earned k es valid id v at called (reply.Raised raise.Over) n cause = cause
-cause_earned k es valid id v at called (reply.Raised raise.Heap) n cause = absurd cause
+cause_earned k es valid id v at called (reply.Raised raise.Heap) n cause = (cause.0, cause.1)
 cause_earned k es valid id v at called reply.Kept n cause = cause.0
 cause_earned k es valid id v at (call.Await thread index) reply.Done n cause = refl
 cause_earned k es valid id v at called said n cause = cause

@@ -25,7 +25,7 @@ use Rattle.ft_trace.proofs.NamedBoxes.{IsPut}
 use Rattle.ft_trace.proofs.BoxActs.{on_box}
 use Rattle.ft_trace.proofs.Boxed.{boxed}
 
-bit_none : (b : ℕ) → bit b 0 ≡ 0
+pub bit_none : (b : ℕ) → bit b 0 ≡ 0
 unfolding bit
 bit_none b = ap (λ (z : ℕ). z % 2) (zero-div (2 ^ b))
 
@@ -66,15 +66,15 @@ free_stays k es id v a valid b not_take free =
     put_phase (PutRoot o r old) is = refl
     put_phase c is = absurd is
 
-abbrev rest_of : List Act → List Act
+abbrev pub rest_of : List Act → List Act
 rest_of [] = []
 rest_of (a ∷ l) = l
 
-abbrev first_of : Act → List Act → Act
+abbrev pub first_of : Act → List Act → Act
 first_of a [] = a
 first_of a (c ∷ l) = c
 
-no_log : {A : Type 0} (newer : List Act) (a : Act) (rest : List Act) → [] ≡ newer ++ a ∷ rest → A
+pub no_log : {A : Type 0} (newer : List Act) (a : Act) (rest : List Act) → [] ≡ newer ++ a ∷ rest → A
 no_log [] a rest e = absurd (cc)
 no_log (c ∷ newer) a rest e = absurd (cc)
 

@@ -14,11 +14,13 @@ use Rattle.ft_model.specs.declared.reply.Raise.TheVariants as raise
 use Rattle.ft_model.specs.declared.entry.Entry.{Entry as NamedEntry}
 use Rattle.ft_model.specs.declared.script.Start.{Start}
 use Rattle.ft_model.specs.Answers.{answer, world_by}
+use Rattle.ft_model.specs.Boxings.{boxes, boxings}
 use Rattle.ft_model.specs.Histories.{IsReplied}
 use Rattle.ft_model.specs.TableUses.{StoredWorld, stored_by, stored_newest, takes_by, takes_newest, CanLackMemory, IsEarnedReply, IsFittingReply, takes_in, would_pass}
 use Rattle.ft_model.proofs.StoredLaws.{newest_stored, newest_takes, stored_world}
 use Rattle.ft_trace.specs.declared.Entry.{Entry}
 use Rattle.ft_trace.specs.declared.Shape.{Shape}
+use Rattle.ft_trace.specs.Causes.{CanLackPlace}
 use Rattle.ft_trace.specs.Earnings.{IsEarnedSo, AllEarned}
 use Rattle.ft_trace.specs.Entries.{IsNumber, Right, AllRight}
 use Rattle.ft_trace.specs.InOrder.{supply_in, StandsInOrder, NumberedEntriesAreInOrder}
@@ -100,17 +102,22 @@ order_numbered (d ∷ cs) n c e =
 
 -- ---- what is earned
 
-earned_so : (k : Shape) (cs calls : List Call) → stored_newest k.starts cs ≡ stored_by k.starts calls → ((class : ℕ) → takes_newest k.starts class cs ≡ takes_by k.starts class calls) → (mine : List NamedEntry) (called : Call) (said : Reply) → IsEarnedSo k cs called said
-    → IsEarnedReply k.starts (supply_in k) calls mine called said × IsFittingReply (stored_by k.starts calls) called said
-earned_so k cs calls stored takes mine called (reply.Raised (raise.Memory class)) e =
+earned_so : (k : Shape) (cs calls : List Call) → stored_newest k.starts cs ≡ stored_by k.starts calls → ((class : ℕ) → takes_newest k.starts class cs ≡ takes_by k.starts class calls) → (mine : List NamedEntry) (called : Call) (said : Reply) → (said ≡ reply.Raised raise.Heap → k.heap ≤ boxings k.starts calls mine) → IsEarnedSo k cs called said
+    → IsEarnedReply k.starts (supply_in k) calls mine called said
+earned_so k cs calls stored takes mine called (reply.Raised (raise.Memory class)) full e =
     let t = takes class in
-    let few = e.4 in (
-      (inl (subst (λ (z : StoredWorld). CanLackMemory z.world called) stored e.0), ap (λ (z : StoredWorld). would_pass z.world called) (sym stored) ∙ e.1, record { is_class = e.3; all_taken = omega (arith, few, t) }),
-      ap (λ (z : StoredWorld). takes_in z called) (sym stored) ∙ e.2,
-    )
-earned_so k cs calls stored takes mine called (reply.Raised raise.Over) e = ((subst (λ (z : StoredWorld). CanLackMemory z.world called) stored e.0, ap (λ (z : StoredWorld). would_pass z.world called) (sym stored) ∙ e.1), tt)
-earned_so k cs calls stored takes mine called (reply.Raised raise.Heap) e = absurd e
-earned_so k cs calls stored takes mine called said e = (ap (λ (z : StoredWorld). would_pass z.world called) (sym stored) ∙ e, tt)
+    let few = e.4 in
+    (inl (subst (λ (z : StoredWorld). CanLackMemory z.world called) stored e.0), ap (λ (z : StoredWorld). would_pass z.world called) (sym stored) ∙ e.1, record { is_class = e.3; all_taken = omega (arith, few, t) })
+earned_so k cs calls stored takes mine called (reply.Raised raise.Over) full e = (subst (λ (z : StoredWorld). CanLackMemory z.world called) stored e.0, ap (λ (z : StoredWorld). would_pass z.world called) (sym stored) ∙ e.1)
+earned_so k cs calls stored takes mine called (reply.Raised raise.Heap) full e =
+    let lacks = subst (λ (z : StoredWorld). CanLackPlace z.world called) stored e.0 in
+    record { boxes = lacks.boxes; raises_nothing = lacks.raises_nothing; passes_nothing = ap (λ (z : StoredWorld). would_pass z.world called) (sym stored) ∙ e.1; all_used = full refl }
+earned_so k cs calls stored takes mine called said full e = ap (λ (z : StoredWorld). would_pass z.world called) (sym stored) ∙ e
+
+fits_so : (k : Shape) (cs calls : List Call) → stored_newest k.starts cs ≡ stored_by k.starts calls → (called : Call) (said : Reply) → IsEarnedSo k cs called said → IsFittingReply (stored_by k.starts calls) called said
+fits_so k cs calls stored called (reply.Raised (raise.Memory class)) e = ap (λ (z : StoredWorld). takes_in z called) (sym stored) ∙ e.2
+fits_so k cs calls stored called (reply.Raised raise.Heap) e = ap (λ (z : StoredWorld). boxes z.world called) (sym stored) ∙ e.0.boxes
+fits_so k cs calls stored called said e = tt
 
 -- ---- the entries
 
@@ -127,8 +134,8 @@ stands k cs e right earned =
       number = λ w. number_in_order cs e.stamp e.call (right.write w);
       hands = right.hands;
       reply = subst (λ z. IsReplied e.call e.reply (answer z right.hands e.call).reply) world right.reply;
-      earned = λ mine. (earned_so k (first_writes e.stamp cs) calls stored (λ class. takes_in_order k.starts class e.stamp cs) mine e.call e.reply earned).0;
-      fitting = (earned_so k (first_writes e.stamp cs) calls stored (λ class. takes_in_order k.starts class e.stamp cs) [] e.call e.reply earned).1;
+      earned = λ mine full. earned_so k (first_writes e.stamp cs) calls stored (λ class. takes_in_order k.starts class e.stamp cs) mine e.call e.reply full earned;
+      fitting = fits_so k (first_writes e.stamp cs) calls stored e.call e.reply earned;
     }
 
 pub all_stand : (k : Shape) (cs : List Call) (entries : List Entry) → AllRight k.starts cs entries → AllEarned k cs entries → All (StandsInOrder k (reverse cs)) entries

@@ -181,7 +181,7 @@ right_low : (starts : List Start) (cs : List Call) (entries : List Entry) → Al
 right_low starts cs [] all = All-nil (λ e. e.stamp ≤ length cs)
 right_low starts cs (e ∷ entries) all = All-cons (λ e. e.stamp ≤ length cs) e entries all.0.low (right_low starts cs entries all.1)
 
-right_parts : (starts : List Start) (cs : List Call) (xs ys : List Entry) → AllRight starts cs (xs ++ ys) → AllRight starts cs xs × AllRight starts cs ys
+pub right_parts : (starts : List Start) (cs : List Call) (xs ys : List Entry) → AllRight starts cs (xs ++ ys) → AllRight starts cs xs × AllRight starts cs ys
 right_parts starts cs [] ys all = (tt, all)
 right_parts starts cs (x ∷ xs) ys all = let r = right_parts starts cs xs ys all.1 in ((all.0, r.0), r.1)
 
@@ -198,8 +198,8 @@ own_order_stays calls more entries low own =
 
 -- ---- one more entry
 
-kept_cause : (stored : StoredWorld) (log : List Act) (c : Call) (r : Reply) (n : ℕ) → r ≡ reply.Kept → HasCause stored log c r n → IsInnermostHeld (begun log)
-kept_cause stored log c r n is cause = (subst (λ (z : Reply). HasCause stored log c z n) is cause).1
+kept_cause : (stored : StoredWorld) (v : View) (c : Call) (r : Reply) (n : ℕ) → r ≡ reply.Kept → HasCause stored v c r n → IsInnermostHeld (begun v.log)
+kept_cause stored v c r n is cause = (subst (λ (z : Reply). HasCause stored v c z n) is cause).1
 
 own_next : (k : Shape) (es : List Event) → Valid k es → (id : ℕ) (v : View) → get_elem? (run k es).views id ≡ some v → (b : Act) → Reports b (word k es (place b)) → May k (run k es) (history es) v b → AreInOwnOrder (IsNumber (writes_of b (history es))) v.entries → AreInOwnOrder (IsNumber (writes_of b (history es))) (view_after b v).entries
 own_next k es valid id v at (Commit c r f s) found may old =
@@ -218,7 +218,7 @@ own_next k es valid id v at (Answer c r n) found may old =
         rises = All-weaker (λ e. number_after e ≤ least_stamp v.log) (λ e. number_after e ≤ n) (λ e past. le_trans past up) v.entries before;
         kept = λ is_end is_kept first outer opens o m called among named low past is.
             let f = alike_first first outer (begun v.log) (subst (λ (l : List Entry). Alike l (begun v.log)) opens (alike k es valid id v at)) in
-            let held = kept_cause (stored_newest k.starts (first_writes n (history es))) v.log c r n is_kept may.4 f.0 f.1 f.2 in
+            let held = kept_cause (stored_newest k.starts (first_writes n (history es))) v c r n is_kept may.4 f.0 f.1 f.2 in
             let since = (subst (EachHeld v.log) f.2 (each_held v.log)).0 held o (ap (is_among o) (sym f.3) ∙ among) in
             own_writes k es valid o f.0.stamp id v at since m called named (subst (λ (z : ℕ). z ≤ m) f.4 low) is;
       },
@@ -248,7 +248,7 @@ right_lists k b cs (l ∷ lists) right all =
     (own_stays k.starts b cs l p.0 (All-head (AreInOwnOrder (IsNumber cs)) l lists all))
     (right_lists k b cs lists p.1 (All-tail (AreInOwnOrder (IsNumber cs)) l lists all))
 
-given_lists : (P : List Entry → Type 0) (w : View) → All P (all_lists w) → All P (lists_of w)
+pub given_lists : (P : List Entry → Type 0) (w : View) → All P (all_lists w) → All P (lists_of w)
 given_lists P w all =
     dite (ℕ_discrete w.number 0)
     (λ (e : w.number ≡ 0). subst (All P) (sym (here w.number 0 w.lists (all_lists w) e)) (All-tail P w.entries w.lists all))

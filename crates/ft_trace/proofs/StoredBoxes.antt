@@ -47,7 +47,7 @@ pub either_true : (x y : Bool) → y ≡ true → cond x true y ≡ true
 either_true true y e = refl
 either_true false y e = e
 
-two_conds : (x y : Bool) (n : ℕ) → cond x (cond y n n) n ≡ n
+pub two_conds : (x y : Bool) (n : ℕ) → cond x (cond y n n) n ≡ n
 two_conds true true n = refl
 two_conds true false n = refl
 two_conds false y n = refl

@@ -11,6 +11,7 @@ use Rattle.ft_trace.specs.declared.Shape.{Shape}
 use Rattle.ft_trace.specs.declared.View.{View}
 use Rattle.ft_trace.specs.Addresses.{tables_in}
 use Rattle.ft_trace.specs.Acts.{all_entries}
+use Rattle.ft_trace.specs.Causes.{CanLackPlace}
 use Rattle.ft_trace.specs.ContainerStates.{first_writes}
 use Rattle.ft_trace.specs.Traces.{Event, history, Valid}
 use Rattle.ft_trace.specs.TraceLaws.{HasView}
@@ -18,7 +19,7 @@ use Rattle.ft_trace.specs.TraceLaws.{HasView}
 -- After these writes, newest first, the call may have this reply. A MemoryError of a class stands on a call that can
 -- add, raises nothing else, passes no greatest length and would take a table of the class, where writes took the tables
 -- of the class but for one for each other pass. One of a content past the largest table stands exactly where the call
--- would leave that. No value is in a heap yet. (profile)
+-- would leave that, and one of a heap on a call that would put a value in a box, and raises nothing else. (profile)
 abbrev pub IsEarnedSo : Shape → List Call → Call → Reply → Type 0
 IsEarnedSo k cs call (reply.Raised (raise.Memory class)) =
     CanLackMemory (stored_newest k.starts cs).world call
@@ -28,7 +29,8 @@ IsEarnedSo k cs call (reply.Raised (raise.Memory class)) =
     × (tables_in k class ≤ takes_newest k.starts class cs + (k.passes - 1))
 IsEarnedSo k cs call (reply.Raised raise.Over) =
     CanLackMemory (stored_newest k.starts cs).world call × (would_pass (stored_newest k.starts cs).world call ≡ true)
-IsEarnedSo k cs call (reply.Raised raise.Heap) = ⊥
+IsEarnedSo k cs call (reply.Raised raise.Heap) =
+    CanLackPlace (stored_newest k.starts cs).world call × (would_pass (stored_newest k.starts cs).world call ≡ false)
 IsEarnedSo k cs call said = would_pass (stored_newest k.starts cs).world call ≡ false
 
 -- each of these entries, after as many writes as its stamp says

@@ -3,7 +3,10 @@ use Rattle.std.specs.Prelude.{◌≡◌, ℕ, ◌<◌, ◌≤◌, true, All, Lis
 use Rattle.ft_model.specs.declared.call.Call.{Call}
 use Rattle.ft_model.specs.declared.cursor.Cursor.{Cursor}
 use Rattle.ft_model.specs.declared.entry.Entry.{Entry as NamedEntry}
+use Rattle.ft_model.specs.declared.reply.Reply.TheVariants as said
+use Rattle.ft_model.specs.declared.reply.Raise.TheVariants as raise
 use Rattle.ft_model.specs.Answers.{answer, is_write, world_by}
+use Rattle.ft_model.specs.Boxings.{boxings}
 use Rattle.ft_model.specs.Histories.{IsReplied}
 use Rattle.ft_model.specs.TableUses.{Supply, stored_by, IsEarnedReply, IsFittingReply}
 use Rattle.ft_trace.specs.declared.Entry.{Entry}
@@ -17,7 +20,8 @@ supply_in k = record { tables = k.tables; threads = k.passes; heap = k.heap }
 
 -- The entry beside these writes: its stamp is at most their number, and that of a write is its place among them. Its
 -- reply is that of the plain containers after as many writes as the stamp says, to a thread with some cursors, or that
--- of a section, or a MemoryError; a MemoryError has its cause there, and fits the call.
+-- of a section, or a MemoryError; a MemoryError has its cause there, that of a heap where as many writes of the pass
+-- put a value in a box before it as its heap has places, and fits the call.
 pub record StandsInOrder (k : Shape) (calls : List Call) (e : Entry) : Type 0 where
   pub within : e.stamp ≤ length calls
   pub wrote : e.wrote ≡ is_write e.call e.reply
@@ -25,6 +29,7 @@ pub record StandsInOrder (k : Shape) (calls : List Call) (e : Entry) : Type 0 wh
   pub hands : List (Option Cursor)
   pub reply : IsReplied e.call e.reply (answer (world_by k.starts (take e.stamp calls)) hands e.call).reply
   pub earned : (mine : List NamedEntry)
+      → (e.reply ≡ said.Raised raise.Heap → k.heap ≤ boxings k.starts (take e.stamp calls) mine)
       → IsEarnedReply k.starts (supply_in k) (take e.stamp calls) mine e.call e.reply
   pub fitting : IsFittingReply (stored_by k.starts (take e.stamp calls)) e.call e.reply
 

@@ -14,7 +14,7 @@ use Rattle.ft_trace.specs.declared.Act.TheVariants.{Answer, AnswerCursor, ReadCo
 use Rattle.ft_trace.specs.declared.View.{View}
 use Rattle.ft_trace.specs.Acts.{owes, view_after}
 use Rattle.ft_trace.specs.ContainerStates.{reply_in}
-use Rattle.ft_trace.specs.Causes.{AreOfOneCall, HasCause}
+use Rattle.ft_trace.specs.Causes.{AreOfOneCall, CanLackPlace, HasCause, HeapIsFull}
 use Rattle.ft_trace.specs.Hands.{cursor_in, MovesCursor}
 use Rattle.ft_trace.specs.Holds.{AgreesWith}
 use Rattle.ft_trace.specs.Traces.{IsReachable, IsAwake}
@@ -32,7 +32,7 @@ RepliesMayBeGiven =
     → moved_cursor call ≡ None
     → ((calls : List Call) (number : ℕ) → AgreesWith v (stored_newest v.shape.starts calls)
     → IsReplied call said (reply_in (stored_newest v.shape.starts calls) call)
-    × HasCause (stored_newest v.shape.starts calls) (ReadCounter number ∷ v.log) call said number)
+    × HasCause (stored_newest v.shape.starts calls) (view_after (ReadCounter number) v) call said number)
     → (number : ℕ) × IsReachable (after_answer v call said number)
 
 -- what a pass knows that loaded the counter and answered an `iter` or a `next` of its cursor under a number, with that
@@ -66,3 +66,13 @@ MemoryErrorsMayBeAnswered =
     × (would_pass (stored_newest v.shape.starts calls).world call ≡ false)
     × (takes_in (stored_newest v.shape.starts calls) call ≡ Some class))
     → (number : ℕ) × IsReachable (after_answer v call (lacks class) number)
+
+-- A pass with a call left that found its own heap full since its last entry may answer a MemoryError of a heap to a call
+-- that would put a value in a box.
+abbrev pub HeapErrorsMayBeAnswered : Type 0
+HeapErrorsMayBeAnswered =
+    (v : View) (call : Call) → IsAwake v → IsReachable v → 0 < v.left → HeapIsFull v.shape v.number v.log
+    → ((calls : List Call) → AgreesWith v (stored_newest v.shape.starts calls)
+    → CanLackPlace (stored_newest v.shape.starts calls).world call
+    × (would_pass (stored_newest v.shape.starts calls).world call ≡ false))
+    → (number : ℕ) × IsReachable (after_answer v call (reply.Raised raise.Heap) number)

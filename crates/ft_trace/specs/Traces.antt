@@ -1,6 +1,6 @@
 -- A trace is a list of events, newest first. It gives the words and the views, and it is valid where each event's
 -- condition held where it stands.
-use Rattle.std.specs.Prelude.{◌≡◌, ◌≢◌, ◌⊎◌, ℕ, suc, ◌+◌, ◌*◌, ◌/◌, ◌^◌, ◌<◌, ◌≤◌, Bool, true, false, List, [], ◌∷◌, ◌++◌, slice_index, slice_set}
+use Rattle.std.specs.Prelude.{◌≡◌, ◌≢◌, ◌⊎◌, ℕ, suc, ◌+◌, ◌*◌, ◌/◌, ◌^◌, ◌%◌, ◌<◌, ◌≤◌, Bool, true, false, List, [], ◌∷◌, ◌++◌, slice_index, slice_set}
 use mathlib.Core.Option.{some}
 use lib.ListN.{get_elem?}
 use Rattle.std.specs.Prelude.{Some, None}
@@ -214,7 +214,7 @@ May k m cs v (Answer c r n) =
     × (n ≤ word_in k m counter)
     × IsReplied c r (reply_in (stored_newest k.starts (first_writes n cs)) c)
     × Loaded n v.log
-    × HasCause (stored_newest k.starts (first_writes n cs)) v.log c r n
+    × HasCause (stored_newest k.starts (first_writes n cs)) v c r n
     × (0 < v.left)
     × (moved_cursor c ≡ None)
 -- The call is an `iter` or a `next` of the cursor under this number, and a load of the counter since the last entry
@@ -297,13 +297,15 @@ May k m cs v (GivePlace b) = IsBoxName k b × (place_to_give b v.log ≡ 1)
 -- this is part of a join alone
 May k m cs v (TookOver tables had found told) = ⊥
 
--- there are at most 64 passes and 1,024 tables of a class, and no deque and no dict that starts with shared keys yet
+-- There are at most 64 passes, 1,024 tables of a class and 4,096 places of a heap, of which a word has the bits of 64; and
+-- no deque and no dict that starts with shared keys yet.
 pub record Fits (k : Shape) : Type 0 where
   pub some_pass : 0 < k.passes
   pub passes : k.passes ≤ 64
   pub tables : (c : ℕ) → IsClass c → tables_in k c ≤ 1024
   pub landed : AreLanded k.starts
   pub containers : container_count k ≤ 256
+  pub heap : (k.heap ≤ 4096) × (k.heap % 64 ≡ 0)
 
 -- The pass is offline and has no lock. It has no table but such as it retired, which who takes it in takes over, where
 -- their goals stand in their headers. It has committed what it began, and is in the midst of no taking or giving.

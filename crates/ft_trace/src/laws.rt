@@ -2,7 +2,7 @@
 ghost use Rattle.ft_trace.specs.Grants.{ListsMayBeCleared, ClearedTablesMayBeGivenBack, TakingsEnd};
 ghost use Rattle.ft_trace.specs.WholeWrites.{WritesMayBeMade};
 ghost use Rattle.ft_trace.specs.ItemWrites.{ItemsMayBePut, ItemsMayBeAppended};
-ghost use Rattle.ft_trace.specs.Replies.{RepliesMayBeGiven, CursorsMayBeMoved, MemoryErrorsMayBeAnswered};
+ghost use Rattle.ft_trace.specs.Replies.{RepliesMayBeGiven, CursorsMayBeMoved, HeapErrorsMayBeAnswered, MemoryErrorsMayBeAnswered};
 ghost use Rattle.ft_trace.specs.LookReplies.{DictHitsAreReplied, SetHitsAreReplied, MissesAreReplied, ItemsAreReplied, PastItemsAreReplied};
 ghost use Rattle.ft_trace.specs.EntryWrites.{ValuesMayBePut};
 ghost use Rattle.ft_trace.specs.Earnings.{EntriesAreEarned};
@@ -427,6 +427,11 @@ pub fn replies_may_be_given()
 /// A MemoryError of a class may be answered by a pass that found its count 0.
 pub fn memory_errors_may_be_answered()
     ensures { MemoryErrorsMayBeAnswered }
+{}
+
+/// A pass that found its heap full may answer a MemoryError of a heap to a call that would put a value in a box.
+pub fn heap_errors_may_be_answered()
+    ensures { HeapErrorsMayBeAnswered }
 {}
 
 /// The table that a clear took out of the root may be retired and given back.

@@ -1,5 +1,6 @@
 //! What holds of the entries of each pass by itself, for whoever makes one history of all of them: laws on every
 //! valid trace.
+ghost use Rattle.ft_trace.specs.HeapErrors.{HeapErrorsAreEarned};
 ghost use Rattle.ft_trace.specs.OwnOrder.{OwnEntriesAreInOrder, KeptSectionsAreUntouched, OwnOrderStays};
 
 /// Stamps of a pass rise from entry to entry, and where an `end` says kept, each write on the section's containers
@@ -17,4 +18,9 @@ pub fn kept_sections_are_untouched()
 /// Entries that are in their pass's order stay so when writes come after those that their stamps count.
 pub fn own_order_stays()
     ensures { OwnOrderStays }
+{}
+
+/// A pass answers a MemoryError of a heap only after as many writes that put a value in a box as its heap has places.
+pub fn heap_errors_are_earned()
+    ensures { HeapErrorsAreEarned }
 {}

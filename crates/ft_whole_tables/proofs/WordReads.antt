@@ -11,7 +11,7 @@ use Rattle.ft_trace.specs.Boxes.{value_at, known_box_word, named_in_root}
 use Rattle.ft_trace.specs.ContainerStates.{kind_in}
 use Rattle.ft_trace.specs.Holds.{held_words}
 use Rattle.ft_trace.specs.Kinds.{rows}
-use Rattle.ft_trace.specs.LoggedReads.{Among, Agrees, AgreesBoxes}
+use Rattle.ft_trace.specs.LoggedReads.{Among}
 use Rattle.ft_trace.specs.Pictures.{ContainerWords, root_in}
 use Rattle.ft_trace.specs.Unboxed.{unboxed}
 use Rattle.ft_trace.proofs.PlainPuts.{by_root}
@@ -19,7 +19,6 @@ use Rattle.ft_trace.proofs.ReadTables.{rows_long}
 use Rattle.ft_bank.specs.declared.pass.Pass.{Pass}
 use Rattle.ft_bank.specs.Passes.{view}
 use Rattle.ft_bank.specs.Series.{DidAll}
-use Rattle.ft_bank.specs.Whole.{OnlyLoaded}
 use Rattle.ft_search.specs.Boxed.{box_acts, IsKnownBox, SeesKnown, SeesValue}
 use Rattle.ft_search.specs.KeyLooks.{AreLooks}
 use Rattle.ft_search.specs.declared.boxed.SeenValue.{SeenValue}

@@ -8,7 +8,7 @@ use Rattle.ft_trace.specs.declared.Shape.{Shape}
 use Rattle.ft_trace.specs.declared.View.{View}
 use Rattle.ft_trace.specs.declared.Act.TheVariants.{StartWrite, PutRoot}
 use Rattle.ft_trace.specs.Acts.{has_lock, is_writing, owes, stage, used, flight, view_after}
-use Rattle.ft_trace.specs.Boxes.{IsDoneWithBoxes, IsSettled}
+use Rattle.ft_trace.specs.Boxes.{IsSettled}
 use Rattle.ft_trace.specs.Addresses.{container_count, class_of, size, slots}
 use Rattle.ft_trace.specs.Holds.{held_unboxed, known_state}
 use Rattle.ft_trace.specs.Pictures.{root_in, Represents, item_offset, item_field}
@@ -37,19 +37,19 @@ pub record KnowsList (k : Shape) (o : ℕ) (old : Option Table) (v : View) : Typ
   pub root : root_in (held_unboxed o v) ≡ root_for old
 
 -- Besides it writes no container, is in the midst of no taking or giving of a table, and of no other write that took a
--- table out of a root; it has lowered no count of a class that it hasn't raised again, holds no reference for a box and
--- makes none, and it has a call left. (profile)
+-- table out of a root; it has lowered no count of a class that it hasn't raised again, and has a call left. It may hold few
+-- references for boxes, where what it has to do with its own boxes is settled. (profile)
 pub record MayAdd (k : Shape) (o : ℕ) (old : Option Table) (v : View) : Type 0 where
   pub list : KnowsList k o old v
   pub even : (p : ℕ) → is_writing p v.log ≡ false
   pub used : used v.log ≡ false
   pub owes : owes v.log ≡ 0
   pub idle : flight v.log ≡ 0
-  pub boxes : IsDoneWithBoxes k v.log
+  pub settled : IsSettled v.log
+  pub few : HoldsFew v
   pub left : 0 < v.left
 
--- Or it has taken this table, which is fresh in its hand, and has raised no count since; it may hold few references for
--- boxes, where what it has to do with its own boxes is settled. (profile)
+-- Or it has taken this table, which is fresh in its hand, and has raised no count since. (profile)
 pub record MayGrowList (k : Shape) (o : ℕ) (old : Option Table) (table : Table) (v : View) : Type 0 where
   pub list : KnowsList k o old v
   pub even : (p : ℕ) → is_writing p v.log ≡ false
@@ -75,9 +75,7 @@ pub record HasRooted (o root : ℕ) (v w : View) : Type 0 where
 abbrev pub with_new_item : List ℕ → ℕ → ℕ → ℕ → List ℕ
 with_new_item words place kind payload =
     slice_set
-    (slice_set
-    (slice_set (slice_set words (item_offset place 0) 0) (item_offset place 1) kind)
-    (item_offset place 2) payload)
+    (slice_set (slice_set (slice_set words (item_offset place 0) 0) (item_offset place 1) kind) (item_offset place 2) payload)
     (item_offset place 3) 0
 
 -- A kind and a payload are the words of the value that an item has in a table with these words, or 0 where the table has

@@ -1,11 +1,16 @@
 -- The words of a table while the entry of a new key is put into it.
 use Rattle.std.specs.Prelude.{◌≡◌, ℕ, ◌+◌, ◌*◌, ◌%◌, ◌<◌, ◌≤◌, List, [], ◌∷◌, length, slice_set}
 use Rattle.ft_layout.specs.declared.slot.Pair.{Pair}
+use Rattle.ft_layout.specs.declared.slot.Ref.{Ref}
 use Rattle.ft_layout.specs.Words.{entry_words}
 use Rattle.ft_keys.specs.declared.words.Access.{Access}
 use Rattle.ft_keys.specs.declared.words.Access.TheVariants.{PutIndex, PutEntry}
 use Rattle.ft_keys.specs.TableChanges.{place_puts}
 use Rattle.ft_trace.specs.Addresses.{class_of, slots}
+use Rattle.ft_trace.specs.declared.View.{View}
+use Rattle.ft_trace.specs.BoxWords.{box_kind}
+use Rattle.ft_trace.specs.Holds.{held_unboxed}
+use Rattle.ft_bank.specs.BoxSteps.{box_id, kind_read, payload_read, HasReferenceFor, IsBoxIn}
 use Rattle.ft_trace.specs.Pictures.{ContainerWords, index_field, entry_offset, entry_field}
 use Rattle.ft_new_keys.specs.declared.counts.Counts.{Counts}
 use Rattle.ft_new_keys.specs.Placing.{counted}
@@ -45,3 +50,11 @@ pub record IsUnused (n m : ℕ) (words : List ℕ) (slot place : ℕ) : Type 0 w
   pub none : entry_field n words place 2 ≡ 0
   pub stores : entry_field n words place 4 ≡ 0
   pub free : index_field words slot ≡ 0
+
+-- The pass holds a reference for the box, and knows that what stands there reads as the value of the entry at this place
+-- of the table t of the container o. (profile)
+pub record ReadsAsEntry (o t place : ℕ) (b : Ref) (v : View) : Type 0 where
+  pub name : IsBoxIn v.shape b
+  pub own : HasReferenceFor v box_kind (box_id b)
+  pub kind : kind_read v box_kind (box_id b) ≡ entry_field (slots (class_of t)) (held_unboxed o v).table place 4
+  pub payload : payload_read v box_kind (box_id b) ≡ entry_field (slots (class_of t)) (held_unboxed o v).table place 5

@@ -8,6 +8,7 @@ use Rattle.ft_trace.specs.InOrder.{AreInOrder}
 use Rattle.ft_trace.specs.Owners.{found_owners, had_locks}
 use Rattle.ft_trace.specs.Traces.{history, IsReachable}
 use Rattle.ft_trace.proofs.Earnings.{entries_are_earned}
+use Rattle.ft_trace.proofs.HeapErrors.{heap_errors_are_earned}
 use Rattle.ft_trace.proofs.InOrder.{numbered_entries_are_in_order}
 use Rattle.ft_trace.proofs.OwnOrder.{own_entries_are_in_order}
 use Rattle.ft_trace.proofs.Rule.{one_pass_has_all_entries}
@@ -26,9 +27,10 @@ returns-clause-last c is script kept all for_it are asks count shown =
     let earned = entries_are_earned v.shape x.0 x.2.0 x.1 v x.2.1 in
     let in_order = numbered_entries_are_in_order v.shape (history x.0) (all_entries v) numbered earned in
     let own = (own_entries_are_in_order v.shape x.0 x.2.0 x.1 v x.2.1).1 in
+    let full = heap_errors_are_earned v.shape x.0 x.2.0 x.1 v x.2.1 in
     let calls = reverse (history x.0) in (
       calls,
-      entries_are_numbered v.shape script calls (all_lists v) kept (had_locks v.number v.log) (found_owners v.log) (tells v) for_it in_order own (all_replied v.shape x.0 x.2.0 x.1 v x.2.1) are asks count,
+      entries_are_numbered v.shape script calls (all_lists v) kept (had_locks v.number v.log) (found_owners v.log) (tells v) for_it in_order own full (all_replied v.shape x.0 x.2.0 x.1 v x.2.1) are asks count,
       last_world v x is all shown ∙ ap (λ (starts : List Start). map shown_of (world_by starts calls)) for_it.starts,
     ))
 

@@ -5,17 +5,19 @@ use Rattle.ft_model.specs.declared.reply.Reply.TheVariants as reply
 use Rattle.ft_model.specs.TableUses.{CanLackMemory, takes_in, would_pass}
 use Rattle.ft_trace.specs.Addresses.{class_of}
 use Rattle.ft_trace.specs.Holds.{held_unboxed}
-use Rattle.ft_trace.specs.Pictures.{root_in}
+use Rattle.ft_trace.specs.Pictures.{ContainerWords, root_in}
 use Rattle.ft_trace.specs.ContainerStates.{changes}
 use Rattle.ft_bank.specs.Passes.{shape_of, view}
 use Rattle.ft_bank.specs.TableNames.{table_id, root_for}
 use Rattle.ft_bank.proofs.TableAddresses.{class_is}
 use Rattle.ft_search.proofs.Overs.{held_same}
 use Rattle.ft_table_calls.specs.Adding.{Retires}
+use Rattle.ft_table_calls.proofs.GrowthMidst.{retired_knows}
 use Rattle.ft_table_calls.proofs.Rooting.{taken_out}
 use Rattle.ft_list.specs.ListWrites.{Grows}
 use Rattle.ft_list.specs.ListItemWrites.{known_items}
-use Rattle.ft_list.specs.Internal.Additions.{count_in, with_added}
+use Rattle.ft_list.specs.Internal.Additions.{count_in, with_added, NamesAdded}
+use Rattle.ft_list.proofs.AddedStored.{names_kept, not_made, retired_uses, stores_on, words_kept_all}
 use Rattle.ft_list.proofs.Additions.{taken_grows, no_table_lacks, taken_room, taken_other, taken_wider, taken_root, tried_addition, tried_has, tried_grows, tried_items, tried_knows, tried_may, tried_news}
 use Rattle.ft_list.proofs.Extending.{added_long}
 use Rattle.ft_list.proofs.GrowWrites.{list_changes}
@@ -47,11 +49,16 @@ pub add_in-number-requires-clause-spare : goal.add_in-number-requires-clause-spa
 add_in-number-requires-clause-spare c b =
     let k = shape_of c.args.bank.now in
     let same = held_same k (view c.args.pass.now) (view c.take.new.pass) c.requires.pass.1 (c.in-Taken.ensures.same.shape ∙ c.requires.pass.1) c.in-Taken.ensures.keeps.boxes.references b in
-    let none = c.requires.may.boxes.none b in
-    omega (arith, same, none)
+    let s = c.requires.spare b in
+    omega (arith, same, s)
 
-pub add_in-number-requires-clause-untaken : goal.add_in-number-requires-clause-untaken
-add_in-number-requires-clause-untaken c b taken = c.requires.may.boxes.stored b (sym (c.in-Taken.ensures.keeps.boxes.made.uses b) ∙ taken)
+pub add_in-number-requires-clause-stores : goal.add_in-number-requires-clause-stores
+add_in-number-requires-clause-stores c =
+    let a = c.args in
+    let v = view a.pass.now in
+    let u = view c.take.new.pass in
+    let e = c.in-Taken.ensures in
+    stores_on a.called.now v u (λ b taken. sym (e.keeps.boxes.made.uses b) ∙ taken) (tried_has _ v u e.same e.keeps) a.addition c.requires.stores
 
 pub add_in-number-requires-clause-count : goal.add_in-number-requires-clause-count
 add_in-number-requires-clause-count c =
@@ -63,7 +70,7 @@ pub add_in-number-requires-clause-addition : goal.add_in-number-requires-clause-
 add_in-number-requires-clause-addition c =
     let a = c.args in
     let e = c.in-Taken.ensures in
-    tried_addition _ (view a.pass.now) (view c.take.new.pass) e.same e.keeps (shape_of a.bank.now) a.count a.addition c.requires.pass.1 c.requires.addition
+    tried_addition _ (view a.pass.now) (view c.take.new.pass) e.same e.keeps (shape_of a.bank.now) a.count a.addition c.requires.pass.1 a.pass.now.possible c.requires.addition
 
 pub add_in-number-requires-clause-room : goal.add_in-number-requires-clause-room
 add_in-number-requires-clause-room c =
@@ -150,3 +157,24 @@ returns-in-Taken-clause-added c =
         retired = subst (λ (n : ℕ). Retires n done (view c.retire_old.new.pass)) (sym list.root ∙ sym (ap (λ (n : ℕ). root_in (held_unboxed n u)) at)) c.retire_old.ensures.retired;
       },
     )
+
+pub returns-in-Taken-clause-named : goal.returns-in-Taken-clause-named
+returns-in-Taken-clause-named c made =
+    let a = c.args in
+    let v = view a.pass.now in
+    let u = view c.take.new.pass in
+    let done = view c.add_in-number.new.pass in
+    let w = view c.retire_old.new.pass in
+    let e = c.in-Taken.ensures in
+    let retired = c.retire_old.ensures.retired in
+    let items : known_items a.l u ≡ known_items a.l v = tried_items _ v u e.same e.keeps (shape_of a.bank.now) a.l a.old c.requires.pass.1 c.requires.may.list in (
+      subst (λ (l : List Value). NamesAdded a.l l a.addition w) items
+          (names_kept a.l (known_items a.l u) a.addition done w (words_kept_all a.l done w (ap (λ (x : ContainerWords). x.table) (retired_knows _ done w retired a.l).0)) c.add_in-number.ensures.named),
+      (λ b taken. c.add_in-number.ensures.stored b (sym (retired_uses _ done w retired b) ∙ taken)),
+    )
+
+pub returns-in-AllTaken-clause-named : goal.returns-in-AllTaken-clause-named
+returns-in-AllTaken-clause-named c made = not_made _ refl made
+
+pub returns-in-Moved-clause-named : goal.returns-in-Moved-clause-named
+returns-in-Moved-clause-named c made = not_made _ refl made

@@ -1,4 +1,5 @@
-use Rattle.std.proofs.Common.{◌≡◌, ◌+◌, true, sym, subst, arith}
+use Rattle.std.proofs.Common.{◌≡◌, ◌+◌, true, refl, sym, ◌∙◌, subst, arith}
+use Rattle.ft_list.proofs.AddedStored.{not_made}
 use Rattle.ft_model.specs.declared.call.Call.{Call}
 use Rattle.ft_model.specs.TableUses.{CanLackMemory, would_pass}
 use Rattle.ft_bank.specs.Passes.{shape_of, view}
@@ -35,3 +36,9 @@ answer_over-requires-clause-over c stored has =
     let past = c.if-total.true in
     subst (λ (z : Call). CanLackMemory stored.world z × (would_pass stored.world z ≡ true)) (sym r.1)
     (over_passes k a.l a.old v c.requires.may.list c.requires.pass.1 a.pass.now.possible r.0 total news r.2 (added_long k a.count a.addition v values c.requires.addition c.requires.count) (omega (arith, e, past)) stored has)
+
+pub returns-then-total-clause-named : goal.returns-then-total-clause-named
+returns-then-total-clause-named c made = not_made _ refl made
+
+pub returns-in-Some-clause-named : goal.returns-in-Some-clause-named
+returns-in-Some-clause-named c made = c.add_in_taken.ensures.named (made.0, sym c.anew.ensures ∙ made.1)

@@ -1,4 +1,4 @@
-use Rattle.std.proofs.Common.{◌≡◌, ◌<◌, ℕ, ◌+◌, length, refl, sym, ap, ◌∙◌, subst}
+use Rattle.std.proofs.Common.{◌≡◌, ◌<◌, ℕ, ◌+◌, length, refl, sym, ap, ◌∙◌, subst, arith}
 use Rattle.ft_model.specs.declared.call.Call.TheVariants as call
 use Rattle.ft_model.specs.declared.call.ListCall.TheVariants as list
 use Rattle.ft_model.specs.declared.reply.Reply.TheVariants as reply
@@ -13,7 +13,10 @@ use Rattle.ft_list.proofs.ListCallFacts.{extend_adds}
 use Rattle.ft_list.proofs.Extending.{knows_few, knows_from, knows_list}
 use Rattle.ft_list.proofs.GrownLists.{knows_content}
 use Rattle.ft_list.proofs.Lists.{items_loaded, may_loaded}
-use Rattle.ft_search.proofs.Puts.{done_then}
+use Rattle.ft_search.proofs.Overs.{held_same}
+use Rattle.ft_search.proofs.Puts.{few_done, few_same}
+use Rattle.ft_bank.proofs.DoneBoxes.{stays_settled_same}
+use Rattle.ft_list.proofs.AddedStored.{plain_added}
 use Rattle.ft_list.proofs.adding.extend_by.Goals as goal
 
 pub count_of-more-requires-clause-may : goal.count_of-more-requires-clause-may
@@ -36,7 +39,8 @@ add_to-requires-clause-may c =
       used = l.work.used ∙ c.requires.used;
       owes = l.work.owes ∙ c.requires.may.owes;
       idle = l.work.pass.flight ∙ c.requires.idle;
-      boxes = done_then (shape_of a.bank.now) (view a.pass.now) (view c.root_table-old.new.pass) c.requires.pass.1 l.work.pass.shape l.boxes.references l.boxes.made c.requires.may.boxes;
+      settled = (stays_settled_same (view a.pass.now) (view c.root_table-old.new.pass) l.boxes.made).settled c.requires.may.boxes.settled;
+      few = few_same (view a.pass.now) (view c.root_table-old.new.pass) l.boxes.references (few_done (shape_of a.bank.now) (view a.pass.now) c.requires.pass.1 c.requires.may.boxes);
       left = subst (λ (n : ℕ). 0 < n) (sym l.work.left) c.requires.may.left;
     }
 
@@ -86,10 +90,26 @@ returns-clause-added c =
     let f = c.count_of-more.ensures in
     let more : c.count_of-more.result ≡ length (known_items a.m v) = f.count ∙ ap length (items_loaded a.m v x c.count_of-count.ensures.only) in
     adds_items (shape_of a.bank.now) a.l (length (known_items a.m v)) c.root_table-old.result v u (view c.add_to.new.pass) (c.count_of-count.result + c.count_of-more.result) (call.List a.l (list.Extend a.m)) c.add_to.result
-    (loaded_then v x u c.count_of-count.ensures.only (loaded_then x y u f.only e.only)) e.list e.pass.1 c.root_table-old.new.pass.possible (λ d. c.count_of-count.ensures.count d + more d) c.add_to.ensures.added
+    (loaded_then v x u c.count_of-count.ensures.only (loaded_then x y u f.only e.only)) e.list e.pass.1 c.root_table-old.new.pass.possible (λ d. c.count_of-count.ensures.count d + more d) (plain_added (shape_of a.bank.now) _ _ _ _ u (view c.add_to.new.pass) c.add_to.result e.pass.1 (λ four. omega (arith, four)) c.add_to.ensures.added)
 
 pub returns-clause-cursors : goal.returns-clause-cursors
 returns-clause-cursors c number =
+    let a = c.args in
     let e = c.root_table-old.ensures in
-    added_cursors (shape_of c.args.bank.now) _ _ _ reply.Done (view c.root_table-old.new.pass) (view c.add_to.new.pass) c.add_to.result c.add_to.ensures.added number
+    let u = view c.root_table-old.new.pass in
+    added_cursors (shape_of c.args.bank.now) _ _ _ reply.Done (view c.root_table-old.new.pass) (view c.add_to.new.pass) c.add_to.result (plain_added (shape_of a.bank.now) _ _ _ _ u (view c.add_to.new.pass) c.add_to.result e.pass.1 (λ four. omega (arith, four)) c.add_to.ensures.added) number
     ∙ (e.only.work.pass.cursors number ∙ (c.count_of-more.ensures.only.work.pass.cursors number ∙ c.count_of-count.ensures.only.work.pass.cursors number))
+
+pub add_to-requires-clause-stores : goal.add_to-requires-clause-stores
+add_to-requires-clause-stores c b taken =
+    let a = c.args in
+    let l = loaded_then (view a.pass.now) (view c.count_of-count.new.pass) (view c.root_table-old.new.pass) c.count_of-count.ensures.only (loaded_then (view c.count_of-count.new.pass) (view c.count_of-more.new.pass) (view c.root_table-old.new.pass) c.count_of-more.ensures.only c.root_table-old.ensures.only) in
+    c.requires.may.boxes.stored b (sym (l.boxes.made.uses b) ∙ taken)
+
+pub add_to-requires-clause-spare : goal.add_to-requires-clause-spare
+add_to-requires-clause-spare c b =
+    let a = c.args in
+    let l = loaded_then (view a.pass.now) (view c.count_of-count.new.pass) (view c.root_table-old.new.pass) c.count_of-count.ensures.only (loaded_then (view c.count_of-count.new.pass) (view c.count_of-more.new.pass) (view c.root_table-old.new.pass) c.count_of-more.ensures.only c.root_table-old.ensures.only) in
+    let same = held_same (shape_of a.bank.now) (view a.pass.now) (view c.root_table-old.new.pass) c.requires.pass.1 (l.work.pass.shape ∙ c.requires.pass.1) l.boxes.references b in
+    let none = c.requires.may.boxes.none b in
+    omega (arith, same, none)

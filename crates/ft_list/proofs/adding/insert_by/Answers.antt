@@ -1,4 +1,4 @@
-use Rattle.std.proofs.Common.{◌≡◌, ◌<◌, ℕ, ◌+◌, ℤ, length, refl, sym, ap, ◌∙◌, subst}
+use Rattle.std.proofs.Common.{◌≡◌, ◌<◌, ℕ, ◌+◌, ℤ, length, refl, sym, ap, ◌∙◌, subst, arith}
 use mir.Syntax.{w64}
 use mir.Val.{to_z, of_z}
 use Rattle.std.proofs.Math.Facts.{to_z-of_z}
@@ -20,7 +20,12 @@ use Rattle.ft_list.specs.ListItemWrites.{known_items}
 use Rattle.ft_list.proofs.ListCallFacts.{insert_adds}
 use Rattle.ft_list.proofs.GrownLists.{knows_content}
 use Rattle.ft_list.proofs.Additions.{adds_items}
-use Rattle.ft_search.proofs.Puts.{done_then}
+use Rattle.ft_search.proofs.Overs.{held_same}
+use Rattle.ft_search.proofs.Puts.{few_done, few_same}
+use Rattle.ft_bank.proofs.DoneBoxes.{stays_settled_same}
+use Rattle.ft_list.proofs.AddedStored.{plain_added, plain_store, stores_plain}
+use Rattle.ft_layout.specs.declared.slot.Stored.TheVariants.{Plain}
+use Rattle.ft_trace.proofs.ValuePlaces.{plain_kind}
 use Rattle.ft_list.proofs.adding.insert_by.Goals as goal
 
 pub add_to-requires-clause-may : goal.add_to-requires-clause-may
@@ -33,7 +38,8 @@ add_to-requires-clause-may c =
       used = l.work.used ∙ c.requires.used;
       owes = l.work.owes ∙ c.requires.may.owes;
       idle = l.work.pass.flight ∙ c.requires.idle;
-      boxes = done_then (shape_of a.bank.now) (view a.pass.now) (view c.root_table-old.new.pass) c.requires.pass.1 l.work.pass.shape l.boxes.references l.boxes.made c.requires.may.boxes;
+      settled = (stays_settled_same (view a.pass.now) (view c.root_table-old.new.pass) l.boxes.made).settled c.requires.may.boxes.settled;
+      few = few_same (view a.pass.now) (view c.root_table-old.new.pass) l.boxes.references (few_done (shape_of a.bank.now) (view a.pass.now) c.requires.pass.1 c.requires.may.boxes);
       left = subst (λ (n : ℕ). 0 < n) (sym l.work.left) c.requires.may.left;
     }
 
@@ -63,10 +69,29 @@ returns-clause-added c =
     let e = c.root_table-old.ensures in
     subst (λ (i : ℤ). AddsItems k a.l (call.List a.l (list.Insert i a.value)) 1 (view a.pass.now) (view c.add_to.new.pass) c.add_to.result) (to_z-of_z {w = w64} {z = a.index} c.ranges.index)
     (adds_items k a.l 1 c.root_table-old.result (view a.pass.now) u (view c.add_to.new.pass) (c.count_of-count.result + 1) (call.List a.l (list.Insert (to_z w64 (of_z w64 a.index)) a.value)) c.add_to.result
-    (loaded_then (view a.pass.now) x u c.count_of-count.ensures.only e.only) e.list e.pass.1 c.root_table-old.new.pass.possible (ap (λ (n : ℕ). n + 1) c.count_of-count.ensures.count) c.add_to.ensures.added)
+    (loaded_then (view a.pass.now) x u c.count_of-count.ensures.only e.only) e.list e.pass.1 c.root_table-old.new.pass.possible (ap (λ (n : ℕ). n + 1) c.count_of-count.ensures.count) (plain_added (shape_of a.bank.now) _ _ _ _ u (view c.add_to.new.pass) c.add_to.result e.pass.1 (plain_kind a.value) c.add_to.ensures.added))
 
 pub returns-clause-cursors : goal.returns-clause-cursors
 returns-clause-cursors c number =
+    let a = c.args in
     let e = c.root_table-old.ensures in
-    added_cursors (shape_of c.args.bank.now) _ _ _ reply.Done (view c.root_table-old.new.pass) (view c.add_to.new.pass) c.add_to.result c.add_to.ensures.added number
+    let u = view c.root_table-old.new.pass in
+    added_cursors (shape_of c.args.bank.now) _ _ _ reply.Done (view c.root_table-old.new.pass) (view c.add_to.new.pass) c.add_to.result (plain_added (shape_of a.bank.now) _ _ _ _ u (view c.add_to.new.pass) c.add_to.result e.pass.1 (plain_kind a.value) c.add_to.ensures.added) number
     ∙ (e.only.work.pass.cursors number ∙ c.count_of-count.ensures.only.work.pass.cursors number)
+
+pub add_to-requires-clause-stores : goal.add_to-requires-clause-stores
+add_to-requires-clause-stores c =
+    let a = c.args in
+    let l = loaded_then (view a.pass.now) (view c.count_of-count.new.pass) (view c.root_table-old.new.pass) c.count_of-count.ensures.only c.root_table-old.ensures.only in
+    stores_plain (Plain a.value) _ (view c.root_table-old.new.pass) (λ b taken. c.requires.may.boxes.stored b (sym (l.boxes.made.uses b) ∙ taken))
+
+pub add_to-requires-clause-spare : goal.add_to-requires-clause-spare
+add_to-requires-clause-spare c b =
+    let a = c.args in
+    let l = loaded_then (view a.pass.now) (view c.count_of-count.new.pass) (view c.root_table-old.new.pass) c.count_of-count.ensures.only c.root_table-old.ensures.only in
+    let same = held_same (shape_of a.bank.now) (view a.pass.now) (view c.root_table-old.new.pass) c.requires.pass.1 (l.work.pass.shape ∙ c.requires.pass.1) l.boxes.references b in
+    let none = c.requires.may.boxes.none b in
+    omega (arith, same, none)
+
+pub add_to-requires-clause-addition : goal.add_to-requires-clause-addition
+add_to-requires-clause-addition c = (c.clamped-place.ensures.within, plain_store c.args.value (view c.root_table-old.new.pass) c.value_fits.ensures)

@@ -6,7 +6,8 @@ use Rattle.ft_table_calls.specs.Adding.{Retires}
 use Rattle.ft_table_calls.proofs.Cursors.{given_cursors}
 use Rattle.ft_table_calls.proofs.Rooting.{taken_out}
 use Rattle.ft_list.proofs.Emptying.{clear_of}
-use Rattle.ft_search.proofs.Puts.{done_then}
+use Rattle.ft_search.proofs.Puts.{few_done, few_same}
+use Rattle.ft_bank.proofs.DoneBoxes.{stays_settled_same}
 use Rattle.ft_list.proofs.clearing.clear_by.Goals as goal
 
 pub clear_list-number-requires-clause-may : goal.clear_list-number-requires-clause-may
@@ -18,9 +19,13 @@ clear_list-number-requires-clause-may c =
       used = w.used ∙ c.requires.used;
       owes = w.owes ∙ c.requires.may.owes;
       idle = w.pass.flight ∙ c.requires.idle;
-      boxes = done_then (shape_of c.args.bank.now) (view c.args.pass.now) (view c.root_table-old.new.pass) c.requires.pass.1 w.pass.shape c.root_table-old.ensures.only.boxes.references c.root_table-old.ensures.only.boxes.made c.requires.may.boxes;
+      settled = (stays_settled_same (view c.args.pass.now) (view c.root_table-old.new.pass) c.root_table-old.ensures.only.boxes.made).settled c.requires.may.boxes.settled;
+      few = few_same (view c.args.pass.now) (view c.root_table-old.new.pass) c.root_table-old.ensures.only.boxes.references (few_done (shape_of c.args.bank.now) (view c.args.pass.now) c.requires.pass.1 c.requires.may.boxes);
       left = subst (λ (n : ℕ). 0 < n) (sym w.left) c.requires.may.left;
     }
+
+pub clear_list-number-requires-clause-untaken : goal.clear_list-number-requires-clause-untaken
+clear_list-number-requires-clause-untaken c b taken = c.requires.may.boxes.stored b (sym (c.root_table-old.ensures.only.boxes.made.uses b) ∙ taken)
 
 pub retire_old-requires-clause-out : goal.retire_old-requires-clause-out
 retire_old-requires-clause-out c t is =

@@ -7,6 +7,7 @@ use Rattle.ft_bank.specs.Passes.{shape_of, view}
 use Rattle.ft_bank.specs.TableNames.{root_for}
 use Rattle.ft_search.specs.OneEntryWrites.{Leaves}
 use Rattle.ft_list.specs.Internal.NewListTables.{MayAdd}
+use Rattle.ft_list.proofs.GrownLists.{add_begins}
 use Rattle.ft_list.proofs.Emptying.{bare_leaves}
 use Rattle.ft_list.proofs.clearing.clear_list.Goals as goal
 
@@ -22,3 +23,9 @@ write_nothing-requires-clause-leaves c =
 
 pub returns-in-None-clause-root : goal.returns-in-None-clause-root
 returns-in-None-clause-root c = c.write_nothing.ensures.root ∙ (c.requires.may.list.root ∙ ap root_for c.in-None.is)
+
+pub write_nothing-requires-clause-may : goal.write_nothing-requires-clause-may
+write_nothing-requires-clause-may c = add_begins (shape_of c.args.bank.now) c.args.l c.args.old (view c.args.pass.now) c.requires.may
+
+pub clear_table-requires-clause-may : goal.clear_table-requires-clause-may
+clear_table-requires-clause-may c = subst (λ (z : Option Table). MayAdd (shape_of c.args.bank.now) c.args.l z (view c.args.pass.now)) c.in-Some.is c.requires.may

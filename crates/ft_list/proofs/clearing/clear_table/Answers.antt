@@ -9,7 +9,6 @@ use Rattle.ft_trace.specs.Pictures.{root_in}
 use Rattle.ft_bank.specs.Passes.{shape_of, view}
 use Rattle.ft_bank.specs.WriteSteps.{Committed, MayCommit}
 use Rattle.ft_list.proofs.Emptying.{may_put_none, clear_may_commit, clear_stands, clear_root, clear_shut, clear_wrote, clear_of}
-use Rattle.ft_search.proofs.Puts.{few_done}
 use Rattle.ft_trace.specs.Boxes.{references_held}
 use Rattle.ft_list.proofs.clearing.clear_table.Goals as goal
 use Rattle.ft_list.proofs.clearing.clear_table.Goals.{After-commit-number}
@@ -21,7 +20,7 @@ pub put_other_root-requires-clause-even : goal.put_other_root-requires-clause-ev
 put_other_root-requires-clause-even c = c.requires.may.even
 
 pub put_other_root-requires-clause-settled : goal.put_other_root-requires-clause-settled
-put_other_root-requires-clause-settled c = c.requires.may.boxes.settled
+put_other_root-requires-clause-settled c = c.requires.may.settled
 
 pub put_other_root-requires-clause-plain : goal.put_other_root-requires-clause-plain
 put_other_root-requires-clause-plain c b = refl
@@ -31,7 +30,7 @@ put_other_root-requires-clause-may c f =
     let a = c.args in
     let k = shape_of a.bank.now in
     let v = view a.pass.now in
-    may_put_none k a.l (Some a.table) v f c.requires.pass.1 a.pass.now.possible c.requires.may.list c.requires.may.used (few_done k v c.requires.pass.1 c.requires.may.boxes)
+    may_put_none k a.l (Some a.table) v f c.requires.pass.1 a.pass.now.possible c.requires.may.list c.requires.may.used c.requires.may.few
 
 pub commit-number-requires-clause-may : goal.commit-number-requires-clause-may
 commit-number-requires-clause-may c =
@@ -39,7 +38,7 @@ commit-number-requires-clause-may c =
     let r = c.put_other_root.ensures in
     let b = c.put_block.ensures in
     subst (λ (z : Call). MayCommit (view c.put_block.new.pass) z reply.Done) (sym c.clear_call-called.ensures)
-    (clear_may_commit (shape_of a.bank.now) a.l a.table (view a.pass.now) (view c.put_other_root.new.pass) (view c.put_block.new.pass) c.requires.may c.requires.pass.1 a.pass.now.possible r.rooted r.words b.did.1 b.unboxed b.keeps b.moves)
+    (clear_may_commit (shape_of a.bank.now) a.l a.table (view a.pass.now) (view c.put_other_root.new.pass) (view c.put_block.new.pass) c.requires.may c.requires.untaken c.requires.pass.1 a.pass.now.possible r.rooted r.words b.did.1 b.unboxed b.keeps b.moves)
 
 module _ (c : After-commit-number) where
   abbrev n : ℕ
@@ -60,7 +59,7 @@ stop_write-requires-clause-stands c =
     let r = c.put_other_root.ensures in
     let b = c.put_block.ensures in
     let m = c.commit-number in
-    clear_stands (shape_of a.bank.now) a.l a.table (view a.pass.now) (view c.put_other_root.new.pass) (view c.put_block.new.pass) c.requires.may c.requires.pass.1 a.pass.now.possible r.rooted r.words b.did.1 b.unboxed b.keeps b.moves m.result 0 m.ensures.did.0 (view m.new.pass) (view m.new.pass) (made d) (committed d) (shape_of a.bank.now).texts
+    clear_stands (shape_of a.bank.now) a.l a.table (view a.pass.now) (view c.put_other_root.new.pass) (view c.put_block.new.pass) c.requires.may c.requires.untaken c.requires.pass.1 a.pass.now.possible r.rooted r.words b.did.1 b.unboxed b.keeps b.moves m.result 0 m.ensures.did.0 (view m.new.pass) (view m.new.pass) (made d) (committed d) (shape_of a.bank.now).texts
 
 pub stop_write-requires-clause-shut : goal.stop_write-requires-clause-shut
 stop_write-requires-clause-shut c =
@@ -69,7 +68,7 @@ stop_write-requires-clause-shut c =
     let r = c.put_other_root.ensures in
     let b = c.put_block.ensures in
     let m = c.commit-number in
-    clear_shut (shape_of a.bank.now) a.l a.table (view a.pass.now) (view c.put_other_root.new.pass) (view c.put_block.new.pass) c.requires.may c.requires.pass.1 a.pass.now.possible r.rooted r.words b.did.1 b.unboxed b.keeps b.moves m.result 0 m.ensures.did.0 (view m.new.pass) (view m.new.pass) (made d) (committed d)
+    clear_shut (shape_of a.bank.now) a.l a.table (view a.pass.now) (view c.put_other_root.new.pass) (view c.put_block.new.pass) c.requires.may c.requires.untaken c.requires.pass.1 a.pass.now.possible r.rooted r.words b.did.1 b.unboxed b.keeps b.moves m.result 0 m.ensures.did.0 (view m.new.pass) (view m.new.pass) (made d) (committed d)
 
 pub returns-clause-wrote : goal.returns-clause-wrote
 returns-clause-wrote c =
@@ -78,7 +77,7 @@ returns-clause-wrote c =
     let r = c.put_other_root.ensures in
     let b = c.put_block.ensures in
     let m = c.commit-number in
-    clear_wrote (shape_of a.bank.now) a.l a.table (view a.pass.now) (view c.put_other_root.new.pass) (view c.put_block.new.pass) c.requires.may c.requires.pass.1 a.pass.now.possible r.rooted r.words b.did.1 b.unboxed b.keeps b.moves m.result c.stop_write.result m.ensures.did.0 (view m.new.pass) (view c.stop_write.new.pass) (made d) (committed d) m.ensures.seen c.stop_write.ensures.1
+    clear_wrote (shape_of a.bank.now) a.l a.table (view a.pass.now) (view c.put_other_root.new.pass) (view c.put_block.new.pass) c.requires.may c.requires.untaken c.requires.pass.1 a.pass.now.possible r.rooted r.words b.did.1 b.unboxed b.keeps b.moves m.result c.stop_write.result m.ensures.did.0 (view m.new.pass) (view c.stop_write.new.pass) (made d) (committed d) m.ensures.seen c.stop_write.ensures.1
 
 pub returns-clause-root : goal.returns-clause-root
 returns-clause-root c =
@@ -88,7 +87,7 @@ returns-clause-root c =
     let b = c.put_block.ensures in
     let m = c.commit-number in
     ap (λ (z : View). root_in (held_unboxed a.l z)) c.stop_write.ensures.1
-    ∙ clear_root (shape_of a.bank.now) a.l a.table (view a.pass.now) (view c.put_other_root.new.pass) (view c.put_block.new.pass) c.requires.may c.requires.pass.1 a.pass.now.possible r.rooted r.words b.did.1 b.unboxed b.keeps b.moves m.result 0 m.ensures.did.0 (view m.new.pass) (view m.new.pass) (made d) (committed d)
+    ∙ clear_root (shape_of a.bank.now) a.l a.table (view a.pass.now) (view c.put_other_root.new.pass) (view c.put_block.new.pass) c.requires.may c.requires.untaken c.requires.pass.1 a.pass.now.possible r.rooted r.words b.did.1 b.unboxed b.keeps b.moves m.result 0 m.ensures.did.0 (view m.new.pass) (view m.new.pass) (made d) (committed d)
 
 pub returns-clause-references : goal.returns-clause-references
 returns-clause-references c =

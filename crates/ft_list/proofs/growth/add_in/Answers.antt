@@ -1,8 +1,7 @@
-use Rattle.std.proofs.Common.{◌≡◌, ◌≢◌, ℕ, ◌+◌, ◌<◌, ◌≤◌, List, length, Some, sym, ap, ◌∙◌, subst, arith, suc}
+use Rattle.std.proofs.Common.{◌≡◌, ℕ, ◌+◌, ◌<◌, ◌≤◌, List, length, Some, sym, ap, ◌∙◌, subst, arith, suc}
 use Rattle.ft_model.specs.declared.data.Value.{Value}
 use Rattle.ft_model.specs.Worlds.{list_of}
 use Rattle.ft_layout.specs.Containers.{IsBlock}
-use Rattle.ft_trace.specs.Boxes.{place_use, use_taken}
 use Rattle.ft_trace.specs.declared.Act.TheVariants.{PutBlock}
 use Rattle.ft_trace.specs.declared.Shape.{Shape}
 use Rattle.ft_trace.specs.declared.View.{View}
@@ -21,13 +20,16 @@ use Rattle.ft_list.specs.Internal.Moving.{IsMoving}
 use Rattle.ft_list.specs.Internal.Additions.{count_in, first_in, with_added}
 use Rattle.ft_list.specs.Internal.NewListTables.{IsCopied}
 use Rattle.ft_list.proofs.Cares.{few_slots, table_class, writes_on}
-use Rattle.ft_list.proofs.Extending.{added_changing, added_head, added_long, added_on, addition_begun, addition_on}
+use Rattle.ft_list.proofs.Extending.{added_changing, added_head, added_long, added_on, addition_begun, addition_on, first_low}
 use Rattle.ft_list.proofs.FinishedWrites.{root_stays}
 use Rattle.ft_list.proofs.GrownLists.{grow_filled}
-use Rattle.ft_list.proofs.GrowWrites.{taken_before_root, grow_finishing, grow_wrote, list_changes}
-use Rattle.ft_list.proofs.WholeListWrites.{grows_on}
+use Rattle.ft_list.proofs.GrowWrites.{earlier_root, taken_before_root, grow_finishing, grow_wrote, list_changes}
+use Rattle.ft_list.proofs.WholeListWrites.{grows_on, has_before}
 use Rattle.ft_list.proofs.Rooted.{rooted_known, rooted_other}
+use Rattle.ft_list.specs.Internal.Additions.{NamesAdded}
+use Rattle.ft_list.proofs.AddedStored.{names_kept, stores_added, words_kept_all}
 use Rattle.ft_list.proofs.growth.add_in.Goals as goal
+use Rattle.ft_list.proofs.growth.add_in.Goals.{After-put_block}
 
 pub begin_in-requires-clause-may : goal.begin_in-requires-clause-may
 begin_in-requires-clause-may c =
@@ -63,14 +65,14 @@ put_added-requires-clause-addition c =
     let h = b.rooted in
     let known_now : (p : ℕ) → known_state p s ≡ known_state p x = rooted_known a.o (suc (table_id a.table)) x s h in
     let inside : (p : ℕ) → p < container_count k → p < container_count x.shape = λ p low. subst (λ (z : Shape). p < container_count z) (sym (g.work.pass.shape ∙ c.requires.pass.1)) low in
-    let filled = addition_on k a.count a.addition v x
+    let filled = addition_on k a.count a.addition v x c.fill.ensures.keeps
     (λ p list. let y = g.keeps p (subst (λ (z : Shape). p < container_count z) (sym c.requires.pass.1) list.container) list.locked list.even in (y.2, y.1, g.work.pass.locks p, g.work.pass.writes p)) c.requires.addition in
     let n : length (known_items a.o x) ≡ length (known_items a.o v) = ap (λ (u : ContainerState). length (list_of u.content)) (work_knows v x a.o g.work) in
     let r = c.requires.room in
     let m = c.requires.count in
     addition_begun k a.o a.table x s b.list a.count a.count (b.putting a.count a.count) (omega (arith, n, r, m)) known_now b.pass.1 c.begin_in.new.pass.possible
     (λ p ne list. rooted_other a.o (suc (table_id a.table)) x s h p ne (inside p list.container) list.locked list.even)
-    a.count a.addition filled
+    a.count a.addition b.keeps filled
 
 pub put_added-requires-clause-count : goal.put_added-requires-clause-count
 put_added-requires-clause-count c =
@@ -101,6 +103,22 @@ overflow_add-past c =
     let r = c.requires.room in
     let e = c.added_count.ensures in
     omega (arith, f, r, e)
+
+-- the item names the box once the length is put
+names_put : (c : After-put_block) → NamesAdded c.args.o (known_items c.args.o (view c.args.pass.now)) c.args.addition (view c.put_block.new.pass)
+names_put c =
+    let a = c.args in
+    let y = view c.put_added.new.pass in
+    let u = view c.put_block.new.pass in
+    let s = view c.begin_in.new.pass in
+    let items : known_items a.o s ≡ known_items a.o (view a.pass.now) =
+    ap (λ (z : ContainerState). list_of z.content) (rooted_known a.o (suc (table_id a.table)) (view c.fill.new.pass) s c.begin_in.ensures.rooted a.o ∙ work_knows (view a.pass.now) (view c.fill.new.pass) a.o c.fill.ensures.only.work) in
+    subst (λ (l : List Value). NamesAdded a.o l a.addition u) items
+    (names_kept a.o (known_items a.o s) a.addition y u (words_kept_all a.o y u (ap (λ (z : ContainerWords). z.table) c.put_block.ensures.held)) c.put_added.ensures.named)
+
+pub returns-clause-named : goal.returns-clause-named
+returns-clause-named c =
+    names_kept c.args.o (known_items c.args.o (view c.args.pass.now)) c.args.addition (view c.put_block.new.pass) (view c.finish.new.pass) c.finish.ensures.values (names_put (goal.at.returns-clause-named c).After-put_block)
 
 pub finish-requires-clause-may : goal.finish-requires-clause-may
 finish-requires-clause-may c =
@@ -147,7 +165,10 @@ finish-requires-clause-may c =
     subst (λ (z : List Value × List Value). Grows a.o call_is.0 z.0 z.1 class x) (λ d. (sym same d, sym news_is d))
     (grows_on v x knows_x g.work.pass.shape (λ p mine. g.work.pass.locks p ∙ mine) a.o call_is.0 olds (with_added a.addition v olds) class call_is.2) in
     grow_finishing k a.o a.old a.table x h.rooted u h.start may h.did only first total call_is.0 a.called.now values news call_is.1 grows b.content list (ap (λ (z : View). z.shape) c.put_block.ensures.did.1 ∙ e.pass.1) changing head
-    (λ stored has. let none : (b : ℕ) → place_use b u.log ≢ use_taken = λ b taken. c.requires.untaken b (sym (g.made.uses b) ∙ taken_before_root k a.o a.old a.table x h.rooted u h.start may h.did only b taken) in ((λ b e. absurd (none b e)), (λ b y e other. absurd (none b e))))
+    (stores_added a.called.now v u (λ b taken. sym (g.made.uses b) ∙ taken_before_root k a.o a.old a.table x h.rooted u h.start may h.did only b taken)
+    (λ world has. has_before v x knows_x g.work.pass.shape (λ p mine. g.work.pass.locks p ∙ mine) world (earlier_root k a.o a.old a.table x h.rooted u h.start may h.did only world has))
+    k a.o a.table (ap (λ (z : View). z.shape) c.put_block.ensures.did.1 ∙ e.pass.1) list (list_changes a.o call_is.0 a.called.now call_is.1 call_is.2.write.changing)
+    a.addition olds a.count c.requires.count (first_low k a.count a.addition v c.requires.addition) c.requires.room c.requires.stores (names_put (goal.at.finish-requires-clause-may c).After-put_block))
 
 pub returns-clause-wrote : goal.returns-clause-wrote
 returns-clause-wrote c =
@@ -178,6 +199,16 @@ returns-clause-root c =
 
 pub returns-clause-references : goal.returns-clause-references
 returns-clause-references c b =
-    c.finish.ensures.references b
-    ∙ (c.put_block.ensures.boxes.references b
-    ∙ (c.put_added.ensures.references b ∙ (c.begin_in.ensures.references b ∙ c.fill.ensures.only.references b)))
+    let k = shape_of c.args.bank.now in
+    let v = view c.args.pass.now in
+    let x = view c.fill.new.pass in
+    let s = view c.begin_in.new.pass in
+    let y = view c.put_added.new.pass in
+    let u = view c.put_block.new.pass in
+    let fill = held_same k v x c.requires.pass.1 c.fill.ensures.pass.1 c.fill.ensures.only.references b in
+    let begun = held_same k x s c.fill.ensures.pass.1 c.begin_in.ensures.pass.1 c.begin_in.ensures.references b in
+    let put = c.put_added.ensures.references b in
+    let then_ : u.shape ≡ k = ap (λ (z : View). z.shape) c.put_block.ensures.did.1 ∙ c.put_added.ensures.pass.1 in
+    let block = held_same k y u c.put_added.ensures.pass.1 then_ c.put_block.ensures.boxes.references b in
+    let done = held_same k u (view c.finish.new.pass) then_ c.finish.ensures.pass.1 c.finish.ensures.references b in
+    omega (arith, fill, begun, put, block, done)

@@ -1,4 +1,4 @@
-use Rattle.std.proofs.Common.{◌≡◌, ℕ, suc, List, Option, Some, length, refl, sym, ap, ◌∙◌, subst, arith, get_or-set_same}
+use Rattle.std.proofs.Common.{◌≡◌, ℕ, suc, Option, Some, length, sym, ap, ◌∙◌, subst, arith, get_or-set_same}
 use Rattle.ft_layout.specs.Containers.{IsBlock}
 use Rattle.ft_trace.specs.declared.Act.TheVariants.{PutRoot, StartWrite}
 use Rattle.ft_trace.specs.declared.Shape.{Shape}

@@ -1,10 +1,8 @@
-use Rattle.std.proofs.Common.{◌≡◌, ◌≢◌, ℕ, ◌+◌, ◌%◌, ◌^◌, ◌<◌, List, refl, sym, ap, ◌∙◌, subst, inr, arith, get_or-set_other}
+use Rattle.std.proofs.Common.{◌≡◌, ◌≢◌, ℕ, ◌+◌, ◌%◌, ◌^◌, ◌<◌, List, refl, sym, ap, ◌∙◌, subst, inl, inr, arith, get_or-set_other, get_or-set_same, length-set, length}
 use Rattle.std.specs.Prelude.{slice_index, slice_set}
 use Rattle.ft_trace.specs.declared.Shape.{Shape}
-use Rattle.ft_trace.specs.declared.View.{View}
-use Rattle.ft_trace.specs.Addresses.{IsBoxName}
 use Rattle.ft_trace.specs.Boxes.{names_box, references_held}
-use Rattle.ft_trace.specs.Holds.{held_unboxed}
+use Rattle.ft_trace.specs.Holds.{held_unboxed, held_words}
 use Rattle.ft_trace.specs.ItemWords.{said_at}
 use Rattle.ft_trace.specs.Pictures.{ContainerWords, item_field, item_offset}
 use Rattle.ft_trace.proofs.ReferencesOfPuts.{names_low}
@@ -12,12 +10,14 @@ use Rattle.ft_bank.specs.BoxSteps.{kind_read, payload_read}
 use Rattle.ft_bank.specs.Passes.{shape_of, view}
 use Rattle.ft_bank.specs.SameBoxes.{HoldsFew}
 use Rattle.ft_bank.specs.Whole.{OnlyLoaded}
-use Rattle.ft_bank.proofs.KnownAfterWrites.{loaded_then, put_written, written_then}
-use Rattle.ft_search.specs.Boxed.{IsKnownBox, KeepsOwn}
+use Rattle.ft_bank.proofs.KnownAfterWrites.{loaded_held, loaded_then, put_written, written_then}
+use Rattle.ft_search.specs.Boxed.{KeepsOwn}
 use Rattle.ft_search.proofs.Overs.{held_same}
+use Rattle.ft_search.proofs.Unboxing.{raw_table_long}
 use Rattle.ft_search.proofs.Owning.{held_is_box, keeps_loaded, keeps_then, reads_loaded, own_loaded}
 use Rattle.ft_list.specs.ListItemWrites.{PutsItem, WritesList, with_word, stored_words}
-use Rattle.ft_list.proofs.Cares.{few_slots, list_of_table, list_table, list_unboxed, long_enough, value_is_open, writes_loaded}
+use Rattle.ft_bank.specs.TableNames.{table_id}
+use Rattle.ft_list.proofs.Cares.{few_slots, inside, list_of_table, list_table, list_unboxed, long_enough, value_is_open, writes_loaded}
 use Rattle.ft_list.proofs.PutItems.{version_one, item_put}
 use Rattle.ft_list.proofs.Written.{loaded_written}
 use Rattle.ft_list.proofs.items.carry_item.Goals as goal
@@ -261,3 +261,61 @@ returns-clause-found c =
 
 pub returns-clause-references : goal.returns-clause-references
 returns-clause-references c = moved (goal.at.returns-clause-references c).After-exchange
+
+-- ---- the words as they stand
+
+pub returns-then-old_payload-payload-clause-carries : goal.returns-then-old_payload-payload-clause-carries
+returns-then-old_payload-payload-clause-carries c =
+    let d = (goal.at.returns-then-old_payload-payload-clause-carries c).After-held_value-old_kind in
+    inr (
+      refl,
+      refl,
+      sym c.read_value-kind.ensures.kind ∙ (sym c.if-old_kind-kind.true ∙ old_kind_is d),
+      sym c.read_value-kind.ensures.payload ∙ (sym c.if-old_payload-payload.true ∙ old_payload_is d),
+    )
+
+pub returns-then-old_payload-payload-clause-others : goal.returns-then-old_payload-payload-clause-others
+returns-then-old_payload-payload-clause-others c p word ne some_ few =
+    ap (λ (x : ContainerWords). item_field x.table p word)
+    (loaded_held (view c.args.pass.now) (view c.held_value-old_kind.new.pass) c.args.o (load (goal.at.returns-then-old_payload-payload-clause-others c).After-held_value-old_kind))
+
+module _ (c : After-exchange) where
+  raw_there : (held_words c.args.o (view c.exchange.new.pass)).table ≡ slice_set (slice_set (held_words c.args.o (view c.open_item.new.pass)).table (item_offset c.args.place 1) c.args.value.0) (item_offset c.args.place 2) c.args.value.1
+  raw_there =
+      let at = c.word_at-word.ensures in
+      ap (λ (x : ContainerWords). x.table) c.exchange.ensures.raw
+      ∙ (λ d. slice_set (slice_set (held_words c.args.o (view c.open_item.new.pass)).table (at d) c.args.value.0) (next c d) c.args.value.1)
+
+  -- the table has the words
+  long_there : item_offset c.args.place 2 < length (held_words c.args.o (view c.open_item.new.pass)).table
+  long_there =
+      let list = c.open_item.ensures.list in
+      let l = raw_table_long (view c.open_item.new.pass) c.args.o (table_id c.args.table) list.root in
+      let i = inside (shape_of c.args.bank.now) c.args.table list.table_in c.args.place 3 c.requires.place (omega arith) in
+      omega (arith, l, i)
+
+pub returns-clause-carries : goal.returns-clause-carries
+returns-clause-carries c =
+    let a = c.args in
+    let d = (goal.at.returns-clause-carries c).After-exchange in
+    let T = (held_words a.o (view c.open_item.new.pass)).table in
+    let low = long_there d in
+    let one = slice_set T (item_offset a.place 1) a.value.0 in
+    let long : length one ≡ length T = length-set T (item_offset a.place 1) a.value.0 in
+    inl (
+      ap (λ (l : List ℕ). item_field l a.place 1) (raw_there d)
+          ∙ (get_or-set_other one (item_offset a.place 2) (item_offset a.place 1) a.value.1 0 (λ e. omega (arith, e)) ∙ get_or-set_same T (item_offset a.place 1) a.value.0 0 (omega (arith, low))),
+      ap (λ (l : List ℕ). item_field l a.place 2) (raw_there d) ∙ get_or-set_same one (item_offset a.place 2) a.value.1 0 (omega (arith, low, long)),
+    )
+
+pub returns-clause-others : goal.returns-clause-others
+returns-clause-others c p word ne some_ few =
+    let a = c.args in
+    let d = (goal.at.returns-clause-others c).After-exchange in
+    let T = (held_words a.o (view c.open_item.new.pass)).table in
+    let one = slice_set T (item_offset a.place 1) a.value.0 in
+    ap (λ (l : List ℕ). item_field l p word) (raw_there d)
+    ∙ (get_or-set_other one (item_offset a.place 2) (item_offset p word) a.value.1 0 (λ e. omega (arith, e, ne, some_, few))
+    ∙ (get_or-set_other T (item_offset a.place 1) (item_offset p word) a.value.0 0 (λ e. omega (arith, e, ne, some_, few))
+    ∙ (c.open_item.ensures.values p word some_ few
+    ∙ ap (λ (x : ContainerWords). item_field x.table p word) (loaded_held (view a.pass.now) (view c.held_value-old_kind.new.pass) a.o (whole d)))))

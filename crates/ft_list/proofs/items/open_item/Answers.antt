@@ -1,20 +1,20 @@
-use Rattle.std.proofs.Common.{◌≡◌, ℕ, ◌+◌, ◌%◌, ◌<◌, sym, ap, ◌∙◌, subst, arith}
+use Rattle.std.proofs.Common.{◌≡◌, ℕ, ◌+◌, ◌%◌, ◌<◌, sym, ap, ◌∙◌, subst, arith, get_or-set_other}
 use Rattle.std.specs.Prelude.{slice_set}
 use Rattle.ft_trace.specs.declared.Act.TheVariants.{PutTable}
 use Rattle.ft_trace.specs.Addresses.{class_of, size}
 use Rattle.ft_trace.specs.ContainerStates.{kind_in}
-use Rattle.ft_trace.specs.Holds.{held_unboxed}
+use Rattle.ft_trace.specs.Holds.{held_unboxed, held_words}
 use Rattle.ft_trace.specs.Pictures.{ContainerWords, root_in, item_offset, item_field}
 use Rattle.ft_trace.specs.WholeWrites.{IsNoValue}
 use Rattle.ft_bank.specs.Passes.{shape_of, view}
 use Rattle.ft_bank.specs.TableNames.{table_id}
 use Rattle.ft_bank.specs.Whole.{OnlyPut}
-use Rattle.ft_bank.proofs.KnownAfterWrites.{put_by, put_written, written_then}
+use Rattle.ft_bank.proofs.KnownAfterWrites.{loaded_held, put_by, put_written, written_then}
 use Rattle.ft_search.proofs.Owning.{keeps_loaded, keeps_put, keeps_then}
 use Rattle.ft_list.proofs.Cares.{few_slots, inside, far_word, open_care, set_own, writes_on}
 use Rattle.ft_list.proofs.Written.{loaded_written}
 use Rattle.ft_list.proofs.items.open_item.Goals as goal
-use Rattle.ft_list.proofs.items.open_item.Goals.{After-put_word}
+use Rattle.ft_list.proofs.items.open_item.Goals.{After-put_word, After-read_version-version}
 
 pub word_at-requires-clause-place : goal.word_at-requires-clause-place
 word_at-requires-clause-place c =
@@ -103,3 +103,19 @@ returns-then-version-eq0-clause-keeps c =
     let w = view c.put_word.new.pass in
     keeps_then v u w (keeps_loaded v u c.args.pass.now.possible c.read_version-version.ensures.only)
     (keeps_put u w c.args.o (table_id c.args.table) c.word_at.result (c.read_version-version.result + 1) c.put_word.ensures.did.1 (c.put_word.ensures.same (far d)))
+
+same_words : (c : After-read_version-version) → held_words c.args.o (view c.read_version-version.new.pass) ≡ held_words c.args.o (view c.args.pass.now)
+same_words c = loaded_held (view c.args.pass.now) (view c.read_version-version.new.pass) c.args.o c.read_version-version.ensures.only
+
+pub returns-else-version-eq0-clause-values : goal.returns-else-version-eq0-clause-values
+returns-else-version-eq0-clause-values c place word some_ few =
+    ap (λ (x : ContainerWords). item_field x.table place word) (same_words (goal.at.returns-else-version-eq0-clause-values c).After-read_version-version)
+
+pub returns-then-version-eq0-clause-values : goal.returns-then-version-eq0-clause-values
+returns-then-version-eq0-clause-values c place word some_ few =
+    let a = c.args in
+    let at = c.word_at.ensures in
+    let T = (held_words a.o (view c.read_version-version.new.pass)).table in
+    ap (λ (x : ContainerWords). item_field x.table place word) c.put_word.ensures.held
+    ∙ (get_or-set_other T c.word_at.result (item_offset place word) (c.read_version-version.result + 1) 0 (λ e. omega (arith, e, at, some_, few))
+    ∙ ap (λ (x : ContainerWords). item_field x.table place word) (same_words (goal.at.returns-then-version-eq0-clause-values c).After-read_version-version))

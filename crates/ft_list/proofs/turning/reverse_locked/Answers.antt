@@ -7,6 +7,7 @@ use Rattle.ft_trace.specs.declared.Act.TheVariants.{ReadBlock}
 use Rattle.ft_trace.specs.declared.Shape.{Shape}
 use Rattle.ft_trace.specs.declared.View.{View}
 use Rattle.ft_trace.specs.Addresses.{container_count}
+use Rattle.ft_trace.specs.Boxes.{place_use}
 use Rattle.ft_trace.specs.Holds.{held_unboxed, known_state}
 use Rattle.ft_trace.specs.Pictures.{root_in}
 use Rattle.ft_bank.specs.Passes.{shape_of, view}
@@ -15,7 +16,7 @@ use Rattle.ft_list.specs.ListWrites.{Changes}
 use Rattle.ft_list.specs.ListItemWrites.{known_items}
 use Rattle.ft_list.proofs.ListCallFacts.{reverse_changes}
 use Rattle.ft_list.proofs.Indexes.{no_items}
-use Rattle.ft_list.proofs.Lists.{content_of, items_loaded, may_loaded}
+use Rattle.ft_list.proofs.Lists.{begins, content_of, items_loaded, may_loaded}
 use Rattle.ft_list.proofs.EmptyWrites.{leaves_same}
 use Rattle.ft_list.proofs.ListMidst.{wrote_as}
 use Rattle.ft_list.proofs.Turned.{reversed_none}
@@ -102,22 +103,18 @@ reverse_items-number-requires-clause-call c =
 
 pub write_nothing-number-requires-clause-may : goal.write_nothing-number-requires-clause-may
 write_nothing-number-requires-clause-may c =
-    let a = c.args in
-    let k = shape_of a.bank.now in
-    let v = view a.pass.now in
+    let k = shape_of c.args.bank.now in
     let u = view c.count_of-count.new.pass in
     let t = view c.read_block-root.new.pass in
-    let root = c.read_block-root.result in
     let e = c.count_of-count.ensures in
     let f = c.read_block-root.ensures in
-    let only = loaded_by (ReadBlock a.l 0 root) u t tt f.did.1 in
-    let may = may_loaded k a.l u t e.pass.1 only e.may in
-    let shape = ap (λ (z : View). z.shape) f.did.1 ∙ e.pass.1 in
-    let values = known_items a.l t in
-    let low : a.l < container_count t.shape = subst (λ (s : Shape). a.l < container_count s) (sym shape) may.container in
-    let is_list = content_of k a.l t shape c.read_block-root.new.pass.possible may in
-    let turned = reverse_changes a.l values t low may.locked is_list in
-    may
+    let only = loaded_by (ReadBlock c.args.l 0 c.read_block-root.result) u t tt f.did.1 in
+    begins k c.args.l t (ap (λ (z : View). z.shape) f.did.1 ∙ e.pass.1) (may_loaded k c.args.l u t e.pass.1 only e.may)
+
+pub write_nothing-number-requires-clause-untaken : goal.write_nothing-number-requires-clause-untaken
+write_nothing-number-requires-clause-untaken c b taken =
+    let e = c.count_of-count.ensures in
+    e.may.boxes.stored b (sym (ap (λ (z : View). place_use b z.log) c.read_block-root.ensures.did.1) ∙ taken)
 
 pub write_nothing-number-requires-clause-bare : goal.write_nothing-number-requires-clause-bare
 write_nothing-number-requires-clause-bare c =

@@ -1,12 +1,11 @@
-use Rattle.std.proofs.Common.{List, ◌≡◌, ◌≢◌, ◌+◌, ◌-◌, ◌<◌, refl, sym, ◌∙◌, subst, inl, inr, arith, length, ap, ℕ}
+use Rattle.std.proofs.Common.{List, ◌≡◌, ◌≢◌, ◌+◌, ◌-◌, ◌<◌, refl, sym, ◌∙◌, subst, inl, arith, length, ap, ℕ}
 use Rattle.std.specs.Prelude.{slice_index}
-use Rattle.ft_model.specs.Classes.{IsClass}
 use Rattle.ft_model.specs.declared.data.Value.{Value}
 use Rattle.ft_layout.specs.declared.slot.Stored.TheVariants.{Empty}
 use Rattle.ft_layout.specs.Words.{IsStored}
 use Rattle.ft_layout.proofs.WordLaws.{stored_is_one}
 use Rattle.ft_trace.specs.declared.Shape.{Shape}
-use Rattle.ft_trace.specs.Addresses.{class_of, slots}
+use Rattle.ft_trace.specs.Addresses.{class_of}
 use Rattle.ft_trace.specs.Boxes.{references_held}
 use Rattle.ft_trace.specs.Pictures.{ContainerWords, item_field, item_offset}
 use Rattle.ft_trace.specs.Holds.{held_unboxed}

@@ -1,13 +1,12 @@
-use Rattle.std.proofs.Common.{◌≡◌, ℕ, ◌+◌, ◌-◌, ◌<◌, ◌≤◌, List, length, refl, sym, ap, ◌∙◌, subst, arith}
+use Rattle.std.proofs.Common.{◌≡◌, ℕ, ◌+◌, ◌-◌, ◌<◌, refl, sym, ap, ◌∙◌, subst, arith}
 use Rattle.std.specs.List.{remove}
-use Rattle.ft_model.specs.declared.data.Value.{Value}
 use Rattle.ft_layout.specs.declared.slot.Stored.{Stored}
 use Rattle.ft_layout.specs.declared.slot.Stored.TheVariants.{Empty}
 use Rattle.ft_layout.specs.Words.{IsStored}
 use Rattle.ft_trace.specs.declared.Shape.{Shape}
 use Rattle.ft_trace.specs.Addresses.{class_of, slots}
-use Rattle.ft_trace.specs.Boxes.{names_box, references_held}
-use Rattle.ft_trace.specs.Pictures.{ContainerWords, item_field}
+use Rattle.ft_trace.specs.Boxes.{references_held}
+use Rattle.ft_trace.specs.Pictures.{ContainerWords}
 use Rattle.ft_trace.specs.Holds.{held_unboxed}
 use Rattle.ft_bank.specs.BoxSteps.{kind_read, payload_read}
 use Rattle.ft_bank.specs.Passes.{shape_of, view}
@@ -15,9 +14,9 @@ use Rattle.ft_bank.specs.TableNames.{table_id}
 use Rattle.ft_bank.proofs.KnownAfterWrites.{written_then}
 use Rattle.ft_search.proofs.Overs.{plain_names}
 use Rattle.ft_search.proofs.Owning.{own_plain, plain_seen}
-use Rattle.ft_list.specs.ListItemWrites.{PutsItem, stored_item}
+use Rattle.ft_list.specs.ListItemWrites.{stored_item}
 use Rattle.ft_list.specs.Internal.Moving.{IsMoving, IsMovingDown}
-use Rattle.ft_list.proofs.Cares.{table_class, few_slots}
+use Rattle.ft_list.proofs.Cares.{table_class}
 use Rattle.ft_list.proofs.ItemWordsPut.{down_starts, down_finds, down_next, down_ends, stored_none, remove_past}
 use Rattle.ft_list.proofs.Written.{written_same}
 use Rattle.ft_list.proofs.writes.shift_down.Goals as goal

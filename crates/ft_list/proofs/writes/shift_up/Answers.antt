@@ -1,10 +1,11 @@
-use Rattle.std.proofs.Common.{◌≡◌, ℕ, ◌+◌, ◌<◌, ◌≤◌, List, length, refl, sym, ap, ◌∙◌, subst, arith}
+use Rattle.std.proofs.Common.{◌≡◌, ℕ, ◌+◌, ◌<◌, ◌≤◌, length, refl, sym, ap, ◌∙◌, subst, arith, inl, inr}
+use Rattle.std.proofs.lemmas.Bool.{cases_eq}
 use Rattle.std.specs.List.{insert}
-use Rattle.ft_model.specs.declared.data.Value.{Value}
 use Rattle.ft_layout.specs.declared.slot.Stored.{Stored}
+use Rattle.ft_layout.specs.declared.slot.Stored.TheVariants.{Plain}
 use Rattle.ft_layout.specs.Words.{IsStored}
 use Rattle.ft_trace.specs.Addresses.{class_of, slots}
-use Rattle.ft_trace.specs.Pictures.{ContainerWords}
+use Rattle.ft_trace.specs.Pictures.{ContainerWords, item_field}
 use Rattle.ft_trace.specs.Holds.{held_unboxed}
 use Rattle.ft_bank.specs.BoxSteps.{kind_read, payload_read}
 use Rattle.ft_bank.specs.Passes.{shape_of, view}
@@ -14,6 +15,8 @@ use Rattle.ft_list.specs.ListItemWrites.{stored_item}
 use Rattle.ft_list.specs.Internal.Moving.{IsMoving}
 use Rattle.ft_list.proofs.Cares.{table_class, few_slots}
 use Rattle.ft_list.proofs.ItemWordsPut.{moving_starts, moving_finds, moving_next, insert_low, insert_here, insert_past}
+use Rattle.ft_layout.proofs.WordLaws.{stored_is_one}
+use Rattle.ft_list.proofs.CarriedWords.{carried_same, words_end, words_kept, words_next}
 use Rattle.ft_list.proofs.Written.{written_same}
 use Rattle.ft_list.proofs.writes.shift_up.Goals as goal
 
@@ -44,6 +47,7 @@ loop-at-init c =
           let low : a.place ≤ length values = omega (arith, p, long) in (
             subst (λ (z : Stored). IsStored (kind_read v a.given.0 a.given.1) (payload_read v a.given.0 a.given.1) z) (insert_here values a.place value low) reads,
             moving_starts (class_of (table_id a.table)) is_class values (insert values a.place value) a.place (a.count + 1) a.place (held_unboxed a.o v).table putting (λ q less. insert_low values a.place value q low less),
+            inl (refl, refl, λ q up less. absurd (omega (arith, up, less))),
           );
     }
 
@@ -84,6 +88,16 @@ loop-at-preserved c =
           record { fits = found.fits; kind_is = e.found.0 ∙ found.kind_is; payload_is = e.found.1 ∙ found.payload_is } in (
             subst (λ (y : Stored). IsStored (kind_read z c.carry_item-carried.result.0 c.carry_item-carried.result.1) (payload_read z c.carry_item-carried.result.0 c.carry_item-carried.result.1) y) (insert_past values a.place value at less i.from) stood,
             moving_next class is_class values news a.place (a.count + 1) at (held_unboxed a.o x) (held_unboxed a.o z) (stored_item news at) m.1 (e.puts (stored_item news at) m.0) m.0.fits refl i.from test,
+            words_next a.o values a.place value a.given at c.loop-at.carried c.carry_item-carried.result x z i.from m.2 e.carries e.others
+                (λ same kind_is payload_is.
+                -- what is carried reads as the value
+                let carried : stored_item news at ≡ Plain value = elim (cases_eq at a.place) [
+                  | inl is ↦ ap (stored_item news) is ∙ sym (insert_here values a.place value less)
+                  | inr ne ↦ carried_same values a.place at value less (let f = i.from in omega (arith, f, ne)) same
+                ] in
+                let there : IsStored (item_field (held_unboxed a.o x).table at 1) (item_field (held_unboxed a.o x).table at 2) (stored_item news at) =
+                record { fits = m.0.fits; kind_is = sym kind_is ∙ m.0.kind_is; payload_is = sym payload_is ∙ m.0.payload_is } in
+                stored_is_one _ _ (stored_item values at) (stored_item news at) found there ∙ carried),
           );
     }
 
@@ -104,3 +118,11 @@ returns-clause-moved c value reads values long putting =
     let news = insert values a.place value in
     subst (λ (x : ContainerWords). IsMoving class values news a.place (a.count + 1) (a.count + 1) x.table) (sym c.let_go.ensures.held)
     (subst (λ (n : ℕ). IsMoving class values news a.place (a.count + 1) n (held_unboxed a.o (view c.loop-at.pass)).table) at (c.loop-at.invariant.moving value reads values long putting).1)
+
+pub returns-clause-named : goal.returns-clause-named
+returns-clause-named c value reads values long putting =
+    let a = c.args in
+    let p = c.requires.place.0 in
+    let past : a.count < c.loop-at.at = let t = c.loop-at-test.false in omega (arith, t) in
+    let h = words_end a.o values a.place value a.given c.loop-at.at c.loop-at.carried (view c.loop-at.pass) (omega (arith, p, long)) (omega (arith, past, long)) (c.loop-at.invariant.moving value reads values long putting).2 in
+    words_kept a.o values a.place value a.given.0 a.given.1 (view c.loop-at.pass) (view c.let_go.new.pass) (λ q word some_ few. ap (λ (x : ContainerWords). item_field x.table q word) c.let_go.ensures.words) h

@@ -10,7 +10,7 @@ use Rattle.ft_bank.specs.Passes.{shape_of, view, IsPassOf}
 use Rattle.ft_bank.specs.PassSections.{stack_of}
 use Rattle.ft_bank.specs.BoxSteps.{kind_read, payload_read, HasReferenceFor}
 use Rattle.ft_trace.specs.Boxes.{names_box, references_held}
-use Rattle.ft_list.specs.Internal.Carrying.{HoldsFewBut}
+use Rattle.ft_list.specs.Internal.Carrying.{HasWordsBefore, HoldsFewBut}
 use Rattle.ft_bank.specs.TableNames.{table_id}
 use Rattle.ft_bank.specs.Whole.{OnlyWritten}
 use Rattle.ft_list.specs.ListItemWrites.{WritesList, IsPutting, stored_item}
@@ -36,5 +36,6 @@ invariant-loop-at l =
           → (values : List Value) → length values ≡ l.count
           → IsPutting (class_of (table_id l.table)) values l.place (l.count + 1) (stored_item values) (held_unboxed l.o (view l.initial.pass)).table
           → IsStored (kind_read (view l.pass) l.carried.0 l.carried.1) (payload_read (view l.pass) l.carried.0 l.carried.1) (stored_item (insert values l.place value) l.at)
-          × IsMoving (class_of (table_id l.table)) values (insert values l.place value) l.place (l.count + 1) l.at (held_unboxed l.o (view l.pass)).table;
+          × IsMoving (class_of (table_id l.table)) values (insert values l.place value) l.place (l.count + 1) l.at (held_unboxed l.o (view l.pass)).table
+          × HasWordsBefore l.o values l.place l.at value l.fn.given l.carried (view l.pass);
     }

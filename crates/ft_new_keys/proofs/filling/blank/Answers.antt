@@ -10,6 +10,8 @@ use Rattle.ft_bank.specs.Passes.{view}
 use Rattle.ft_bank.specs.TableNames.{table_id}
 use Rattle.ft_bank.proofs.TableAddresses.{class_is}
 use Rattle.ft_table_calls.proofs.Rooting.{filled_by, filled_same, filled_then}
+use Rattle.ft_boxes.proofs.Steps.{keeps_self, keeps_then}
+use Rattle.ft_new_keys.proofs.FreshSteps.{keeps_fresh}
 use Rattle.ft_new_keys.specs.Fresh.{BlankBelow}
 use Rattle.ft_new_keys.proofs.FilledTables.{blank_all, blank_next, table_is_long}
 use Rattle.ft_new_keys.proofs.filling.blank.Goals as goal
@@ -30,6 +32,7 @@ loop-at-init c =
       pass = c.requires.pass;
       stack = refl;
       only = filled_same v;
+      values = keeps_self v;
       blank = record { long = table_long v.shape (table_id a.table) (mem v.shape v.log); zeros = λ i low. absurd (omega (arith, low)) };
     }
 
@@ -61,6 +64,7 @@ loop-at-preserved c =
       pass = (put.did.0 ∙ i.pass.0, ap (λ (u : View). u.shape) put.did.1 ∙ i.pass.1);
       stack = put.did.2 ∙ i.stack;
       only = filled_then v w z i.only (filled_by (PutFresh (table_id a.table) c.loop-at.at 0) w z tt put.did.1 put.keeps);
+      values = keeps_then v w z (sym i.only.work.pass.shape) i.only.references i.values (keeps_fresh w z (table_id a.table) c.loop-at.at 0 put.did.1);
       blank = subst (BlankBelow class (c.loop-at.at + 1)) (sym put.fresh) (blank_next class c.loop-at.at (in_hand (table_id a.table) w) i.blank low);
     }
 

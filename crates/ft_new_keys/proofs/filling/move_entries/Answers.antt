@@ -12,6 +12,7 @@ use Rattle.ft_table_calls.proofs.Rooting.{filled_then}
 use Rattle.ft_search.specs.Rounds.{kind_by}
 use Rattle.ft_search.proofs.Changing.{kind_is}
 use Rattle.ft_search.proofs.Puts.{table_class}
+use Rattle.ft_boxes.proofs.Steps.{keeps_then}
 use Rattle.ft_new_keys.specs.KeyGrowth.{KnowsKeyed}
 use Rattle.ft_new_keys.proofs.FilledTables.{bare_filled}
 use Rattle.ft_new_keys.proofs.Grown.{knows_filled, same_filled}
@@ -58,3 +59,10 @@ returns-in-None-clause-moved c =
     bare_moved k a.o table x c.blank.ensures.pass.1 keyed.keyed kind_eq bare
     (bare_filled c.changed_words_are_of_a_table.ensures.blank k.texts (held_unboxed a.o x).block (0 ∷ 0 ∷ (held_unboxed a.o x).table) (class_of (table_id table)) d.table.fill d.table.keys d.content (in_hand (table_id table) x) (table_class k table c.requires.table)
     (subst IsKeyed (sym kind_eq) keyed.keyed) stands c.blank.ensures.blank)
+
+pub returns-in-Some-clause-values : goal.returns-in-Some-clause-values
+returns-in-Some-clause-values c =
+    let v = view c.args.pass.now in
+    let x = view c.blank.new.pass in
+    let only = c.blank.ensures.only in
+    keeps_then v x (view c.move_table.new.pass) (sym only.work.pass.shape) only.references c.blank.ensures.values c.move_table.ensures.values

@@ -9,6 +9,7 @@ use Rattle.ft_bank.specs.declared.pass.Pass.{Pass}
 use Rattle.ft_bank.specs.Passes.{shape_of, view}
 use Rattle.ft_bank.specs.TableNames.{table_id}
 use Rattle.ft_bank.proofs.TableAddresses.{class_is}
+use Rattle.ft_boxes.specs.References.{KeepsValues}
 use Rattle.ft_search.specs.Rounds.{kind_by}
 use Rattle.ft_search.proofs.WordPlaces.{mask_is}
 use Rattle.ft_search.proofs.Puts.{table_class}
@@ -71,3 +72,8 @@ returns-clause-moved c =
     (table_class k table c.requires.table) refl last old_last c.requires.blank (ap (λ (z : ContainerWords). 0 ∷ 0 ∷ z.table) (sym words))
     a.growth.now.fill _ c.rebuild_in.result (c.requires.fill ∙ ap (λ (z : ContainerState). z.table.fill) (sym same))
     (subst (λ (z : ContainerState). length_of z.content ≤ rows (kind_by a.growth.now.way) class) (sym same) c.requires.room) e.moves)
+
+pub returns-clause-values : goal.returns-clause-values
+returns-clause-values c =
+    let same_pass : c.rebuild_in.new.words.pass.now ≡ c.pass-1.given.0 = search rules in
+    subst (λ (p : Pass). KeepsValues (view c.args.pass.now) (view p)) same_pass c.rebuild_in.ensures.values

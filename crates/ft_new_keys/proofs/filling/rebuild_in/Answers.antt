@@ -17,3 +17,6 @@ returns-clause-may c =
     let m = c.rebuild.ensures.moves in
     let r = ran_fresh c.args.words.now m.calls c.rebuild.new.words m.runs in
     subst (λ b. IsPassOf b.now c.rebuild.new.words.pass.now) r.bank c.rebuild.ensures.can.0.pass
+
+pub returns-clause-values : goal.returns-clause-values
+returns-clause-values c = let m = c.rebuild.ensures.moves in (ran_fresh c.args.words.now m.calls c.rebuild.new.words m.runs).values

@@ -8,6 +8,7 @@ use Rattle.ft_bank.specs.Passes.{shape_of, view}
 use Rattle.ft_bank.specs.TableNames.{table_id}
 use Rattle.ft_bank.specs.Whole.{OnlyLoaded}
 use Rattle.ft_bank.proofs.KnownAfterWrites.{loaded_by, loaded_held, loaded_then}
+use Rattle.ft_table_calls.proofs.Dropped.{keeps_loads}
 use Rattle.ft_new_keys.proofs.OldValues.{few_words, kind_stored, payload_stored, stored_inside}
 use Rattle.ft_new_keys.proofs.fresh.read_stored.Goals as goal
 use Rattle.ft_new_keys.proofs.fresh.read_stored.Goals.{After-read_table-kind, After-read_table-payload}
@@ -72,3 +73,10 @@ returns-clause-payload c =
     let d = (goal.at.returns-clause-payload c).After-read_table-payload in
     c.read_value.ensures.payload
     ∙ payload_stored (shape_of c.args.bank.now) c.args.o c.args.table c.args.word r.value.0 (view c.args.pass.now) r.pass.1 r.container r.locked r.table r.root r.value.1 r.value.2 (view c.read_table-payload.new.pass) (both d) c.read_table-kind.result c.read_table-payload.result (kind_is d) (payload_is d)
+
+pub returns-clause-values : goal.returns-clause-values
+returns-clause-values c =
+    let v = view c.args.pass.now in
+    let u = view c.read_table-payload.new.pass in
+    let w = view c.read_value.new.pass in
+    keeps_loads v w c.args.pass.now.possible (loaded_then v u w (both (goal.at.returns-clause-values c).After-read_table-payload) c.read_value.ensures.only)

@@ -9,7 +9,8 @@ use Rattle.ft_bank.specs.TableNames.{table_id}
 use Rattle.ft_bank.specs.Whole.{OnlyLoaded}
 use Rattle.ft_bank.proofs.DoneBoxes.{settled_then, stays_settled_same}
 use Rattle.ft_bank.proofs.KnownAfterWrites.{boxed_then, loaded_boxed, loaded_by}
-use Rattle.ft_table_calls.proofs.Dropped.{hand_same, held_loaded}
+use Rattle.ft_table_calls.proofs.Dropped.{hand_same, held_loaded, keeps_loads}
+use Rattle.ft_boxes.proofs.Steps.{keeps_then}
 use Rattle.ft_new_keys.proofs.gone.drop_entry.Goals as goal
 use Rattle.ft_new_keys.proofs.gone.drop_entry.Goals.{After-read_word-key_kind}
 
@@ -36,6 +37,9 @@ returns-then-key_kind-lt-FIRST_GONE-clause-only c = let d = (goal.at.returns-the
 
 pub returns-then-key_kind-lt-FIRST_GONE-clause-made : goal.returns-then-key_kind-lt-FIRST_GONE-clause-made
 returns-then-key_kind-lt-FIRST_GONE-clause-made c = let d = (goal.at.returns-then-key_kind-lt-FIRST_GONE-clause-made c).After-read_word-key_kind in stays_settled_same (u d) (v d) (loads d).boxes.made
+
+pub returns-then-key_kind-lt-FIRST_GONE-clause-values : goal.returns-then-key_kind-lt-FIRST_GONE-clause-values
+returns-then-key_kind-lt-FIRST_GONE-clause-values c = let d = (goal.at.returns-then-key_kind-lt-FIRST_GONE-clause-values c).After-read_word-key_kind in keeps_loads (u d) (v d) c.args.pass.now.possible (loads d)
 
 pub returns-then-key_kind-lt-FIRST_GONE-clause-references : goal.returns-then-key_kind-lt-FIRST_GONE-clause-references
 returns-then-key_kind-lt-FIRST_GONE-clause-references c b =
@@ -90,3 +94,8 @@ returns-clause-references c b =
     let words : names_box b (slice_index (in_hand (table_id c.args.table) (v d)) (c.args.entry + 4)) (slice_index (in_hand (table_id c.args.table) (v d)) (c.args.entry + 4 + 1)) ≡ names_box b (slice_index hand (c.args.entry + 4)) (slice_index hand (c.args.entry + 5)) = (λ j. names_box b (slice_index (hand_is d j) (c.args.entry + 4)) (slice_index (hand_is d j) (next j))) in
     let all : cond (nat_lt (slice_index hand (c.args.entry + 2)) 3) 0 (names_box b (slice_index hand (c.args.entry + 4)) (slice_index hand (c.args.entry + 5))) ≡ names_box b (slice_index hand (c.args.entry + 4)) (slice_index hand (c.args.entry + 5)) = (λ j. cond (off j) 0 (names_box b (slice_index hand (c.args.entry + 4)) (slice_index hand (c.args.entry + 5)))) in
     omega (arith, same, less, words, all)
+
+pub returns-clause-values : goal.returns-clause-values
+returns-clause-values c =
+    let d = (goal.at.returns-clause-values c).After-read_word-key_kind in
+    keeps_then (u d) (v d) (view c.drop_value.new.pass) (sym (loads d).work.pass.shape) (loads d).boxes.references (keeps_loads (u d) (v d) c.args.pass.now.possible (loads d)) c.drop_value.ensures.values

@@ -20,7 +20,9 @@ use Rattle.ft_bank.proofs.TableAddresses.{class_is}
 use Rattle.ft_search.proofs.Calling.{loaded_same}
 use Rattle.ft_search.proofs.Puts.{keyed_value}
 use Rattle.ft_search.proofs.WordPlaces.{slots_is, entry_in}
-use Rattle.ft_table_calls.proofs.Dropped.{hand_same}
+use Rattle.ft_boxes.proofs.Steps.{keeps_self}
+use Rattle.ft_table_calls.proofs.Dropped.{hand_same, keeps_less}
+use Rattle.ft_trace.specs.declared.Shape.{Shape}
 use Rattle.ft_new_keys.specs.Moving.{gone_names_at}
 use Rattle.ft_new_keys.proofs.FilledTables.{room_of_way}
 use Rattle.ft_new_keys.proofs.GoneEntries.{gone_held, gone_then}
@@ -32,7 +34,7 @@ use Rattle.ft_new_keys.proofs.gone.drop_gone_in.Goals.{In-loop-row}
 pub loop-row-init : goal.loop-row-init
 loop-row-init c =
     let v = view c.args.pass.now in
-    record { pass = c.requires.pass; stack = refl; only = loaded_boxed v v (loaded_same v); made = stays_settled_same v v (made_same v); left = λ b. omega arith }
+    record { pass = c.requires.pass; stack = refl; only = loaded_boxed v v (loaded_same v); made = stays_settled_same v v (made_same v); values = keeps_self v; left = λ b. omega arith }
 
 module _ (c : In-loop-row) where
   abbrev kd : Kind
@@ -135,6 +137,11 @@ loop-row-preserved c =
       stack = e.stack ∙ i.stack;
       only = boxed_then u v w i.only e.only;
       made = settled_then u v w i.made e.made;
+      values = keeps_less u v w (sym e.only.work.pass.shape) (λ b.
+          let less = e.references b in
+          let now : references_held w.shape b w.log ≡ references_held k b w.log = ap (λ (z : Shape). references_held z b w.log) e.pass.1 in
+          let was : references_held v.shape b v.log ≡ references_held k b v.log = ap (λ (z : Shape). references_held z b v.log) i.pass.1 in
+          omega (arith, less, now, was)) i.values e.values;
       left = λ b.
           ap (λ (n : ℕ). references_held k b w.log + sum_to (gone_names_at b (kd d) (class d) hand) n) more
           ∙ gone_then (kd d) (class d) hand (λ b. references_held k b u.log) (λ b. references_held k b v.log) row_now (rows (kd d) (class d)) (row_low d) c.requires.held i.left (λ b. references_held k b w.log)

@@ -1,13 +1,18 @@
-use Rattle.std.proofs.Common.{◌≡◌, suc, Some, sym, ◌∙◌, subst}
+use Rattle.std.proofs.Common.{◌≡◌, suc, Some, refl, sym, ap, ◌∙◌, subst, arith}
 use Rattle.std.specs.Prelude.{slice_set}
+use Rattle.ft_trace.specs.declared.Act.TheVariants.{StartWrite}
+use Rattle.ft_trace.specs.declared.Shape.{Shape}
 use Rattle.ft_trace.specs.declared.View.{View}
 use Rattle.ft_trace.specs.Acts.{stage}
-use Rattle.ft_trace.specs.Boxes.{IsSettled}
+use Rattle.ft_trace.specs.Boxes.{references_held, IsSettled}
 use Rattle.ft_trace.specs.Holds.{held_unboxed, hand_unboxed}
 use Rattle.ft_bank.specs.declared.table.Table.{Table}
 use Rattle.ft_bank.specs.Passes.{shape_of, view}
 use Rattle.ft_bank.specs.TableNames.{table_id, IsTableIn}
 use Rattle.ft_bank.specs.WriteSteps.{MayPutRoot}
+use Rattle.ft_bank.specs.SameBoxes.{SameReferences}
+use Rattle.ft_boxes.proofs.Steps.{keeps_by, keeps_then}
+use Rattle.ft_table_calls.proofs.Dropped.{keeps_less}
 use Rattle.ft_new_keys.specs.Moving.{HoldsGone}
 use Rattle.ft_new_keys.proofs.Begun.{begins, begun_references, begun_words, begun_writes, held_gone, settled_r, was_out}
 use Rattle.ft_new_keys.proofs.Rooted.{may_root}
@@ -86,3 +91,23 @@ returns-clause-words c =
     (view c.drop_gone.new.pass) e.only e.made e.references
     ∙ (p.unboxed
     ∙ (λ d. record { block = slice_set (held_unboxed a.o (c.start_write.ensures.1 d)).block 0 (suc (table_id a.table)); table = hand_unboxed a.o (table_id a.table) (c.start_write.ensures.1 d) }))
+
+-- what the pass knew of the values in its boxes
+pub returns-clause-values : goal.returns-clause-values
+returns-clause-values c =
+    let a = c.args in
+    let v = view a.pass.now in
+    let s = view c.start_write.new.pass in
+    let r = view c.put_root.new.pass in
+    let w = view c.drop_gone.new.pass in
+    let started = c.start_write.ensures.1 in
+    let e = c.drop_gone.ensures in
+    let shape : s.shape ≡ v.shape = ap (λ (z : View). z.shape) started in
+    let first = keeps_by v s (StartWrite a.o c.start_write.result) (λ k b i n which. refl) started in
+    let put = keeps_by s r _ (λ k b i n which. refl) c.put_root.ensures.did.1 in
+    let same : SameReferences v s = λ b. ap (λ (z : View). references_held z.shape b z.log) started in
+    keeps_less v r w (sym e.only.work.pass.shape) (λ b.
+    let less = e.references b in
+    let now : references_held w.shape b w.log ≡ references_held (shape_of a.bank.now) b w.log = ap (λ (z : Shape). references_held z b w.log) e.pass.1 in
+    let was : references_held r.shape b r.log ≡ references_held (shape_of a.bank.now) b r.log = ap (λ (z : Shape). references_held z b r.log) (ap (λ (z : View). z.shape) c.put_root.ensures.did.1 ∙ (shape ∙ c.requires.pass.1)) in
+    omega (arith, less, now, was)) (keeps_then v s r (sym shape) same first put) e.values

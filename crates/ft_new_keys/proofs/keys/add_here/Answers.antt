@@ -1,7 +1,8 @@
-use Rattle.std.proofs.Common.{◌≡◌, ℕ, ◌<◌, Option, Some, None, sym, ap, ◌∙◌, subst, arith}
+use Rattle.std.proofs.Common.{◌≡◌, ℕ, ◌<◌, Option, Some, None, refl, sym, ap, ◌∙◌, subst, arith}
 use Rattle.ft_model.specs.TableUses.{TableUse}
 use Rattle.ft_model.specs.Worlds.{kind_of, length_of}
-use Rattle.ft_trace.specs.Holds.{known_state}
+use Rattle.ft_trace.specs.Holds.{held_unboxed, known_state}
+use Rattle.ft_trace.specs.Pictures.{root_in}
 use Rattle.ft_trace.specs.Kinds.{rows}
 use Rattle.ft_bank.specs.declared.table.Table.{Table}
 use Rattle.ft_bank.specs.Passes.{shape_of, view}
@@ -11,6 +12,7 @@ use Rattle.ft_search.specs.Rounds.{kind_by}
 use Rattle.ft_search.proofs.Changing.{kind_is}
 use Rattle.ft_new_keys.specs.KeyGrowth.{key_takes, use_of, most_of}
 use Rattle.ft_new_keys.proofs.FinishedKeys.{adds_leaves}
+use Rattle.ft_new_keys.proofs.HeldKeys.{few_held}
 use Rattle.ft_new_keys.proofs.Keyed.{counts_known, use_known}
 use Rattle.ft_new_keys.proofs.Wanted.{bare_takes, most_few, passes_not, stays_use, takes_none}
 use Rattle.ft_new_keys.proofs.keys.add_here.Goals as goal
@@ -62,7 +64,7 @@ add_in_room-number-requires-clause-leaves c =
     let t = c.in-Some.table in
     let v = view a.pass.now in
     let x = known_state a.o v in
-    adds_leaves a.o a.called.now a.said.now a.key a.stored v c.requires.adds (passes_not x.content (few_is d)) _
+    adds_leaves a.o a.called.now a.said.now a.key a.value.stored v c.requires.adds (passes_not x.content (few_is d)) _
     (stays_use x.content t a.counts.fill x.table (table_is d) c.requires.room (class_is t (c.requires.may.keyed.table_in t c.in-Some.is).2))
 
 pub unreachable-requires : goal.unreachable-requires
@@ -72,3 +74,27 @@ unreachable-requires c =
     let kinds : kind_of x.content ≡ kind_by a.way = kind_is (shape_of a.bank.now) (view a.pass.now) a.o c.requires.pass.1 a.pass.now.possible c.requires.may.keyed.locked ∙ c.requires.way in
     let table : x.table ≡ use_of None a.counts.fill = use_known c.words_are_of_one_content.ensures.head (shape_of a.bank.now) a.o a.old (view a.pass.now) a.counts c.requires.may.keyed c.requires.counts a.pass.now.possible ∙ ap (λ (z : Option Table). use_of z a.counts.fill) c.in-None.is in
     bare_takes x.content a.way a.counts.fill kinds (subst (λ (z : TableUse). key_takes x.content z ≡ None) table c.requires.room)
+
+pub add_in_room-number-requires-clause-may : goal.add_in_room-number-requires-clause-may
+add_in_room-number-requires-clause-may c =
+    let may = c.requires.may in
+    let holds = c.requires.holds in
+    record {
+      container = may.keyed.container;
+      keyed = may.keyed.keyed;
+      locked = may.keyed.locked;
+      even = may.even;
+      stands = may.keyed.stands;
+      owes = may.owes;
+      settled = holds.settled;
+      few = few_held c.args.value.boxed c.args.value.stored (view c.args.pass.now) holds;
+      left = may.left;
+    }
+
+pub returns-clause-put : goal.returns-clause-put
+returns-clause-put c =
+    let a = c.args in
+    let v = view a.pass.now in
+    let w = view c.add_in_room-number.new.pass in
+    let e = c.add_in_room-number.ensures in
+    (refl, refl, record { wrote = e.wrote; root = subst (λ (n : ℕ). root_in (held_unboxed n w) ≡ root_in (held_unboxed n v)) (sym c.requires.adds.changed) e.root; there = e.there })

@@ -14,10 +14,15 @@ use Rattle.ft_table_calls.proofs.Rooting.{taken_out}
 use Rattle.ft_search.specs.Held.{IsHeldAt}
 use Rattle.ft_search.specs.Rounds.{kind_by}
 use Rattle.ft_search.proofs.Changing.{kind_is}
-use Rattle.ft_new_keys.specs.KeyGrowth.{MayGrowKeyed, key_takes, most_of}
+use Rattle.ft_bank.proofs.DoneBoxes.{stays_settled_same}
+use Rattle.ft_new_keys.specs.HeldKeys.{MayPutInNew}
+use Rattle.ft_new_keys.specs.KeyGrowth.{key_takes, most_of}
 use Rattle.ft_new_keys.specs.Placing.{AreCounts}
+use Rattle.ft_new_keys.proofs.HeldCalls.{put_tried}
+use Rattle.ft_new_keys.proofs.HeldKeys.{holds_on}
 use Rattle.ft_new_keys.proofs.Keyed.{counts_known, fresh_other}
-use Rattle.ft_new_keys.proofs.Taken.{adds_later, tried_has, tried_may, tried_words}
+use Rattle.ft_new_keys.proofs.NewEntryPuts.{boxes_keep}
+use Rattle.ft_new_keys.proofs.Taken.{adds_later, tried_has, tried_knows, tried_words}
 use Rattle.ft_new_keys.proofs.Wanted.{passes_not, takes_room}
 use Rattle.ft_new_keys.proofs.keys.add_in_taken.Goals as goal
 use Rattle.ft_new_keys.proofs.keys.add_in_taken.Goals.{After-take, In-Taken}
@@ -35,12 +40,13 @@ same c =
     let e = c.in-Taken.ensures in
     tried_words _ (view a.pass.now) (view c.take.new.pass) e.same e.keeps (shape_of a.bank.now) a.o a.old c.requires.pass.1 c.requires.may.keyed
 
-grow : (c : In-Taken) → MayGrowKeyed (shape_of c.args.bank.now) c.args.o c.args.old c.in-Taken.table (view c.take.new.pass)
+grow : (c : In-Taken) → MayPutInNew (shape_of c.args.bank.now) c.args.o c.args.old c.in-Taken.table (view c.take.new.pass)
 grow c =
     let a = c.args in
     let e = c.in-Taken.ensures in
     let x = e.did.6 in
-    tried_may _ (view a.pass.now) (view c.take.new.pass) e.same e.keeps (shape_of a.bank.now) a.o a.old c.in-Taken.table a.class c.requires.pass.1 c.requires.may x.0 x.1 x.3 x.4
+    let keyed = tried_knows _ (view a.pass.now) (view c.take.new.pass) e.same e.keeps (shape_of a.bank.now) a.o a.old c.requires.pass.1 c.requires.may.keyed in
+    put_tried _ (view a.pass.now) (view c.take.new.pass) e.same e.keeps (shape_of a.bank.now) a.o a.old c.in-Taken.table a.class keyed c.requires.may x.0 x.1 x.3 x.4
 
 other : (c : In-Taken) → root_in (held_unboxed c.args.o (view c.take.new.pass)) ≢ suc (table_id c.in-Taken.table)
 other c =
@@ -82,7 +88,7 @@ add_in_new-number-requires-clause-adds c =
     let a = c.args in
     let d = (goal.at.add_in_new-number-requires-clause-adds c).In-Taken in
     let e = c.in-Taken.ensures in
-    adds_later a.o a.called.now a.said.now a.key a.stored (view a.pass.now) (view c.take.new.pass) (tried_has _ (view a.pass.now) (view c.take.new.pass) e.same e.keeps) e.same.locks (same d).1 c.requires.adds
+    adds_later a.o a.called.now a.said.now a.key a.value.stored (view a.pass.now) (view c.take.new.pass) (tried_has _ (view a.pass.now) (view c.take.new.pass) e.same e.keeps) e.same.locks (same d).1 c.requires.adds
 
 pub add_in_new-number-requires-clause-few : goal.add_in_new-number-requires-clause-few
 add_in_new-number-requires-clause-few c =
@@ -116,10 +122,23 @@ answer_no_table-requires-clause-lacks c found has =
     let adds = c.requires.adds in
     (adds.lacks found before, adds.over found before ∙ passes_not (known_state a.o (view a.pass.now)).content (few_is d), adds.takes found before ∙ c.requires.takes)
 
-pub returns-in-Taken-clause-added : goal.returns-in-Taken-clause-added
-returns-in-Taken-clause-added c =
+pub add_in_new-number-requires-clause-holds : goal.add_in_new-number-requires-clause-holds
+add_in_new-number-requires-clause-holds c =
+    let v = view c.args.pass.now in
+    let u = view c.take.new.pass in
+    let e = c.in-Taken.ensures in
+    let boxes = e.keeps.boxes in
+    holds_on c.args.value.boxed c.args.value.stored v u e.same.shape boxes.references (stays_settled_same v u boxes.made) (boxes_keep v u c.args.pass.now.possible boxes) c.requires.holds
+
+pub add_in_new-number-requires-clause-boxing : goal.add_in_new-number-requires-clause-boxing
+add_in_new-number-requires-clause-boxing c b is found has =
+    let e = c.in-Taken.ensures in
+    c.requires.boxing b is found (tried_has _ (view c.args.pass.now) (view c.take.new.pass) e.same e.keeps found has)
+
+pub returns-in-Taken-clause-put : goal.returns-in-Taken-clause-put
+returns-in-Taken-clause-put c =
     let a = c.args in
-    let d = (goal.at.returns-in-Taken-clause-added c).In-Taken in
+    let d = (goal.at.returns-in-Taken-clause-put c).In-Taken in
     let u = view c.take.new.pass in
     let done = view c.add_in_new-number.new.pass in
     let e = c.in-Taken.ensures in
@@ -135,7 +154,7 @@ returns-in-Taken-clause-added c =
         done = done;
         wrote = w.wrote;
         root = subst (λ (n : ℕ). root_in (held_unboxed n done) ≡ suc (table_id c.in-Taken.table)) (sym at) w.root;
-        references = w.references;
+        there = w.there;
         retired = subst (λ (n : ℕ). Retires n done (view c.retire_old.new.pass)) (sym (grow d).keyed.root ∙ sym (ap (λ (n : ℕ). root_in (held_unboxed n u)) at)) c.retire_old.ensures.retired;
       },
     )

@@ -1,9 +1,9 @@
-use Rattle.std.proofs.Common.{◌≡◌, ◌<◌, ◌+◌, sym, subst, List, arith}
+use Rattle.std.proofs.Common.{◌≡◌, ◌<◌, ◌+◌, sym, subst, List, map, arith}
 use Rattle.ft_layout.specs.Words.{entry_words}
 use Rattle.ft_keys.specs.declared.words.Access.{Access}
 use Rattle.ft_keys.specs.TableChanges.{place_puts}
 use Rattle.ft_trace.specs.declared.Shape.{Shape}
-use Rattle.ft_trace.specs.Addresses.{class_of, slots}
+use Rattle.ft_trace.specs.Addresses.{container_count, class_of, slots}
 use Rattle.ft_trace.specs.ContainerStates.{kind_in}
 use Rattle.ft_trace.specs.Kinds.{rows, IsKeyed}
 use Rattle.ft_bank.specs.Passes.{shape_of, view}
@@ -14,6 +14,9 @@ use Rattle.ft_search.proofs.Running.{ran}
 use Rattle.ft_new_keys.proofs.Laid.{Laid, ran_laid, laid_same, laid_words}
 use Rattle.ft_new_keys.proofs.OldValues.{row_place}
 use Rattle.ft_new_keys.proofs.PlainCalls.{ArePlainCalls, place_plain}
+use Rattle.ft_search.specs.TableWords.{access_act}
+use Rattle.ft_search.proofs.Keeping.{puts_keep}
+use Rattle.ft_new_keys.proofs.NewEntryPuts.{place_acts}
 use Rattle.ft_new_keys.proofs.placing.place_in.Goals as goal
 use Rattle.ft_new_keys.proofs.placing.place_in.Goals.{After-place_at}
 
@@ -73,3 +76,11 @@ pub returns-clause-words : goal.returns-clause-words
 returns-clause-words c =
     let d = (goal.at.returns-clause-words c).After-place_at in
     laid_words c.args.words.now (place_puts c.args.slot c.args.place (entry_words c.args.pair.now)) c.place_at.new.words c.args.place (keyed d) (low d) c.requires.writes.0 c.requires.in_place (laid_is d) (are d)
+
+pub returns-clause-values : goal.returns-clause-values
+returns-clause-values c =
+    let s = c.args.words.now in
+    let calls = place_puts c.args.slot c.args.place (entry_words c.args.pair.now) in
+    let did = (ran s calls c.place_at.new.words c.place_at.ensures.runs).1 in
+    puts_keep s.o (map (access_act s.o (table_id s.table)) calls) (view s.pass.now) (view c.place_at.new.words.pass.now) did.1 (place_acts s.o (table_id s.table) c.args.slot c.args.place c.args.pair.now)
+    (subst (λ (z : Shape). s.o < container_count z) (sym c.requires.can.pass.1) c.requires.can.container) c.requires.writes.0.0

@@ -1,8 +1,9 @@
-use Rattle.std.proofs.Common.{arith}
+use Rattle.std.proofs.Common.{sym, arith}
 use Rattle.ft_trace.specs.Holds.{held_unboxed}
 use Rattle.ft_bank.specs.Passes.{shape_of, view}
 use Rattle.ft_bank.proofs.KnownAfterWrites.{put_written, written_then}
 use Rattle.ft_new_keys.proofs.NewEntryPuts.{few_used}
+use Rattle.ft_boxes.proofs.Steps.{keeps_then}
 use Rattle.ft_new_keys.proofs.placing.put_key.Goals as goal
 
 pub overflow_add-fill : goal.overflow_add-fill
@@ -13,3 +14,10 @@ overflow_add-fill c =
 
 pub returns-clause-only : goal.returns-clause-only
 returns-clause-only c = written_then c.args.o _ _ _ (put_written c.args.o _ _ c.put_counts.ensures.only) c.put_pair.ensures.only
+
+pub returns-clause-values : goal.returns-clause-values
+returns-clause-values c =
+    let v = view c.args.pass.now in
+    let u = view c.put_counts.new.pass in
+    let e = c.put_counts.ensures in
+    keeps_then v u (view c.put_pair.new.pass) (sym e.only.work.pass.shape) e.references e.values c.put_pair.ensures.values

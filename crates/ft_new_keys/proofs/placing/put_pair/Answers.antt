@@ -1,4 +1,4 @@
-use Rattle.std.proofs.Common.{rules, ◌≡◌, ◌+◌, ◌*◌, ap, ◌∙◌, subst, arith}
+use Rattle.std.proofs.Common.{rules, ◌≡◌, ◌+◌, ◌*◌, sym, ap, ◌∙◌, subst, arith}
 use Rattle.std.specs.Prelude.{slice_index}
 use Rattle.ft_trace.specs.Addresses.{class_of, slots}
 use Rattle.ft_trace.specs.Holds.{held_words, held_unboxed}
@@ -11,6 +11,9 @@ use Rattle.ft_search.proofs.WordPlaces.{slots_is}
 use Rattle.ft_search.proofs.Boxing.{table_of}
 use Rattle.ft_search.proofs.Puts.{few_slots}
 use Rattle.ft_new_keys.proofs.NewEntryPuts.{few_used, pair_open, pair_opens, pair_stores, pair_allowed}
+use Rattle.ft_boxes.specs.References.{KeepsValues}
+use Rattle.ft_boxes.proofs.Steps.{keeps_then}
+use Rattle.ft_search.proofs.Keeping.{own_keeps}
 use Rattle.ft_new_keys.proofs.placing.put_pair.Goals as goal
 use Rattle.ft_new_keys.proofs.placing.put_pair.Goals.{After-mask_of-mask}
 
@@ -92,3 +95,14 @@ returns-clause-only c =
     let o = c.args.o in
     let same : c.place_in.new.words.pass.now ≡ c.pass-1.given.0 = search rules in
     written_then o _ _ _ (put_written o _ _ c.raise_version.ensures.only) (written_then o _ _ _ c.put_unboxed.ensures.only (subst (λ p. OnlyWritten o (view c.put_unboxed.new.pass) (view p)) same (put_written o _ _ c.place_in.ensures.only)))
+
+pub returns-clause-values : goal.returns-clause-values
+returns-clause-values c =
+    let v = view c.args.pass.now in
+    let r = view c.raise_version.new.pass in
+    let p = view c.put_unboxed.new.pass in
+    let same : c.place_in.new.words.pass.now ≡ c.pass-1.given.0 = search rules in
+    let raised = c.raise_version.ensures in
+    let unboxed = c.put_unboxed.ensures in
+    keeps_then v r _ (sym raised.only.work.pass.shape) raised.references (own_keeps v r raised.own)
+    (keeps_then r p _ (sym unboxed.only.work.pass.shape) unboxed.references unboxed.values (subst (λ q. KeepsValues p (view q)) same c.place_in.ensures.values))

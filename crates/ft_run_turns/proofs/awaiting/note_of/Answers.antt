@@ -1,7 +1,5 @@
-use Rattle.std.proofs.Common.{length, arith, sym, ◌≤◌}
+use Rattle.std.proofs.Common.{length, arith, ◌≤◌}
 use Rattle.std.proofs.lemmas.Bool.Decides.{nat_tests}
-use Rattle.ft_engine.specs.declared.resting.RestingCaller.{RestingCaller}
-use Rattle.ft_run_turns.specs.declared.seats.Seat.{Seat}
 use Rattle.ft_run_turns.proofs.AwaitedCalls.{tells}
 use Rattle.ft_run_turns.proofs.awaiting.note_of.Goals as goal
 

@@ -1,10 +1,8 @@
-use Rattle.std.proofs.Common.{◌≡◌, arith, ap, subst, sym, ◌∙◌, Some, Option}
-use Rattle.std.specs.Prelude.{slice_get}
+use Rattle.std.proofs.Common.{◌≡◌, arith, ap, subst, sym, ◌∙◌, Option}
 use Rattle.std.specs.Option.{unwrap_or}
 use Rattle.std.proofs.lemmas.Bool.{false≢true}
 use Rattle.ft_model.specs.declared.call.Call.{Call}
 use Rattle.ft_model.specs.declared.call.Call.TheVariants as call
-use Rattle.ft_model.specs.Histories.{calls_of}
 use Rattle.ft_run_turns.specs.Internal.CallerSeats.{HasLearned}
 use Rattle.ft_run_turns.proofs.NextCalls.{may_learn}
 use Rattle.ft_run_turns.proofs.Seated.{for_bank, learn_goes_on, learned_between, learned_leaves, left_goes_on}

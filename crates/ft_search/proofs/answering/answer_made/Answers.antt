@@ -1,5 +1,6 @@
 use Rattle.std.proofs.Common.{[], ◌∷◌, refl, subst, sym}
 use Rattle.ft_trace.specs.declared.Act.TheVariants.{ReadCounter}
+use Rattle.ft_trace.specs.Acts.{view_after}
 use Rattle.ft_bank.specs.Passes.{view}
 use Rattle.ft_section.specs.declared.answers.Stamp.{Stamp}
 use Rattle.ft_search.specs.MadeCalls.{MadeAs}
@@ -11,7 +12,7 @@ pub answer_held-requires-clause-shown : goal.answer_held-requires-clause-shown
 answer_held-requires-clause-shown c n =
     let v = view c.args.pass.now in
     let x = c.requires.shown in
-    held_shown v v n (loaded_same v) c.requires.left c.args.called.now c.args.said x.read x.cursor (shown_replied c.args.called.now c.args.said v n x) (λ stored. x.cause stored (ReadCounter n ∷ v.log) n)
+    held_shown v v n (loaded_same v) c.requires.left c.args.called.now c.args.said x.read x.cursor (shown_replied c.args.called.now c.args.said v n x) (λ stored. x.cause stored (view_after (ReadCounter n) v) n)
 
 pub returns-clause-made : goal.returns-clause-made
 returns-clause-made c =

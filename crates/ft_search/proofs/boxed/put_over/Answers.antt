@@ -1,13 +1,24 @@
-use Rattle.std.proofs.Common.{◌≡◌, ◌+◌, sym, ◌∙◌, arith}
+use Rattle.std.proofs.Common.{◌≡◌, ℕ, ◌+◌, ◌<◌, List, [], ◌∷◌, refl, sym, ap, ◌∙◌, subst, arith}
 use Rattle.std.specs.Prelude.{slice_index}
+use Rattle.ft_trace.specs.declared.Act.TheVariants.{PutTable}
+use Rattle.ft_trace.specs.declared.Shape.{Shape}
+use Rattle.ft_trace.specs.declared.View.{View}
+use Rattle.ft_trace.specs.Addresses.{container_count}
+use Rattle.ft_trace.specs.Boxes.{references_held}
 use Rattle.ft_trace.specs.Holds.{held_words}
-use Rattle.ft_bank.specs.BoxSteps.{HasReferenceFor}
+use Rattle.ft_bank.specs.declared.table.Table.{Table}
+use Rattle.ft_bank.specs.BoxSteps.{HasReferenceFor, value_acts}
 use Rattle.ft_bank.specs.Passes.{shape_of, view}
 use Rattle.ft_bank.specs.TableNames.{table_id}
+use Rattle.ft_bank.specs.Series.{noted_all}
 use Rattle.ft_bank.specs.Whole.{OnlyLoaded}
 use Rattle.ft_search.proofs.Overs.{value_inside, word_inside, table_loaded, open_as, still_unboxed, here_open, here_writes, same_writes, same_raw, same_refs, same_words, both_writes, both_raw, both_refs, both_words, over_only, box_settled, box_held, box_is, drop_only, drop_refs, drop_writes, drop_raw, drop_words}
 use Rattle.ft_search.proofs.ValueLoads.{kind_load, kind_found, both_load, kind_stays, payload_found}
 use Rattle.ft_search.proofs.Owning.{own_loaded, reads_loaded}
+use Rattle.ft_boxes.specs.References.{KeepsValues}
+use Rattle.ft_boxes.proofs.Steps.{keeps_then}
+use Rattle.ft_search.specs.Boxed.{WritesTable}
+use Rattle.ft_search.proofs.Keeping.{keeps_fewer, loads_keep, puts_keep, value_puts_are}
 use Rattle.ft_search.proofs.boxed.put_over.Goals as goal
 use Rattle.ft_search.proofs.boxed.put_over.Goals.{After-read_word-old, After-read_word-named}
 
@@ -220,3 +231,47 @@ pub returns-clause-references : goal.returns-clause-references
 returns-clause-references c =
     let d = (goal.at.returns-clause-references c).After-read_word-named in
     drop_refs (shape_of c.args.bank.now) c.args.o c.args.table c.args.word c.args.kind c.args.payload (view c.args.pass.now) (view c.read_word-named.new.pass) (view c.put_value.new.pass) c.requires.pass.1 c.requires.writes c.requires.open (load_named d) c.requires.own (reads_loaded (view c.args.pass.now) (view c.read_word-named.new.pass) c.args.kind c.args.payload c.args.pass.now.possible c.requires.own (load_named d)) c.put_value.ensures.only c.put_value.ensures.held c.put_value.ensures.unboxed c.put_value.ensures.references c.read_word-named.result (sym (old_stands d) ∙ c.if-old-ne-BOX_KIND.false) (named_is d) (view c.release.new.pass) c.release.ensures.only c.release.ensures.settled c.release.ensures.places c.release.ensures.references
+
+-- ---- what the pass knows of other values in boxes
+
+low_at : (k : Shape) (o : ℕ) (table : Table) (r : View) → r.shape ≡ k → WritesTable k o table r → o < container_count r.shape
+low_at k o table r shape writes = subst (λ (z : Shape). o < container_count z) (sym shape) writes.container
+
+pub returns-then-kind-ne-BOX_KIND-clause-values : goal.returns-then-kind-ne-BOX_KIND-clause-values
+returns-then-kind-ne-BOX_KIND-clause-values c =
+    let a = c.args in
+    let k = shape_of a.bank.now in
+    let v = view a.pass.now in
+    let r = view c.read_word-old.new.pass in
+    let w = view c.put_payload.new.pass in
+    let l = load_old (goal.at.returns-then-kind-ne-BOX_KIND-clause-values c).After-read_word-old in
+    let writes = table_loaded k a.o a.table v r c.requires.pass.1 c.requires.writes l in
+    keeps_then v r w (sym l.work.pass.shape) l.boxes.references (loads_keep v r a.pass.now.possible l)
+    (puts_keep a.o (PutTable a.o (table_id a.table) (a.word + 1) a.payload ∷ []) r w c.put_payload.ensures.did.1 (refl, tt) (low_at k a.o a.table r (l.work.pass.shape ∙ c.requires.pass.1) writes) writes.locked)
+
+both_keep : (c : After-read_word-named) (w : View) → w ≡ noted_all (value_acts c.args.o (table_id c.args.table) c.args.word c.args.kind c.args.payload) (view c.read_word-named.new.pass) → KeepsValues (view c.args.pass.now) w
+both_keep c w did =
+    let a = c.args in
+    let k = shape_of a.bank.now in
+    let v = view a.pass.now in
+    let r = view c.read_word-named.new.pass in
+    let l = load_named c in
+    let writes = table_loaded k a.o a.table v r c.requires.pass.1 c.requires.writes l in
+    keeps_then v r w (sym l.work.pass.shape) l.boxes.references (loads_keep v r a.pass.now.possible l)
+    (puts_keep a.o (value_acts a.o (table_id a.table) a.word a.kind a.payload) r w did (value_puts_are a.o (table_id a.table) a.word a.kind a.payload) (low_at k a.o a.table r (l.work.pass.shape ∙ c.requires.pass.1) writes) writes.locked)
+
+pub returns-then-old-ne-BOX_KIND-clause-values : goal.returns-then-old-ne-BOX_KIND-clause-values
+returns-then-old-ne-BOX_KIND-clause-values c = both_keep (goal.at.returns-then-old-ne-BOX_KIND-clause-values c).After-read_word-named (view c.put_value.new.pass) c.put_value.ensures.did.1
+
+pub returns-clause-values : goal.returns-clause-values
+returns-clause-values c =
+    let k = shape_of c.args.bank.now in
+    let v = view c.args.pass.now in
+    let p = view c.put_value.new.pass in
+    let w = view c.release.new.pass in
+    let e = c.release.ensures in
+    keeps_fewer v p w (sym e.only.work.pass.shape) (λ b.
+    let less = e.references b in
+    let now : references_held w.shape b w.log ≡ references_held k b w.log = ap (λ (z : Shape). references_held z b w.log) e.pass.1 in
+    let was : references_held p.shape b p.log ≡ references_held k b p.log = ap (λ (z : Shape). references_held z b p.log) (sym e.only.work.pass.shape ∙ e.pass.1) in
+    omega (arith, less, now, was)) (both_keep (goal.at.returns-clause-values c).After-read_word-named p c.put_value.ensures.did.1) e.values

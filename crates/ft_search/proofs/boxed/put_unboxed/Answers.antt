@@ -11,6 +11,8 @@ use Rattle.ft_search.specs.Boxed.{IsKnownBox, WritesTable}
 use Rattle.ft_search.proofs.Overs.{value_inside, word_inside, value_known, table_loaded, open_as, plain_refs, plain_words, still_unboxed}
 use Rattle.ft_search.proofs.Unboxing.{put_again}
 use Rattle.ft_search.proofs.ValueLoads.{kind_load, kind_found, both_load, kind_stays, payload_found, writes_still, open_still, value_reads}
+use Rattle.ft_boxes.proofs.Steps.{keeps_then}
+use Rattle.ft_search.proofs.Keeping.{loads_keep}
 use Rattle.ft_search.proofs.boxed.put_unboxed.Goals as goal
 use Rattle.ft_search.proofs.boxed.put_unboxed.Goals.{After-read_word-old, After-read_word-named, After-read_value-read}
 
@@ -146,3 +148,16 @@ returns-clause-words c =
     (r.0 ∙ sym (ap (λ (x : ContainerWords). slice_index x.table i) same))
     (r.1 ∙ sym (ap (λ (x : ContainerWords). slice_index x.table (i + 1)) same))
     ∙ same)
+
+-- ---- what the pass knows of values in boxes
+
+pub returns-then-old-ne-BOX_KIND-clause-values : goal.returns-then-old-ne-BOX_KIND-clause-values
+returns-then-old-ne-BOX_KIND-clause-values c =
+    loads_keep (view c.args.pass.now) (view c.read_word-old.new.pass) c.args.pass.now.possible (load_old (goal.at.returns-then-old-ne-BOX_KIND-clause-values c).After-read_word-old)
+
+pub returns-clause-values : goal.returns-clause-values
+returns-clause-values c =
+    let v = view c.args.pass.now in
+    let r = view c.read_value-read.new.pass in
+    let l = load_all (goal.at.returns-clause-values c).After-read_value-read in
+    keeps_then v r (view c.put_over.new.pass) (sym l.work.pass.shape) l.boxes.references (loads_keep v r c.args.pass.now.possible l) c.put_over.ensures.values

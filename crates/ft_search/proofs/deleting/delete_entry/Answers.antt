@@ -15,7 +15,7 @@ use Rattle.ft_bank.specs.TableNames.{table_id}
 use Rattle.ft_search.specs.OneEntryWrites.{deletion, without_key}
 use Rattle.ft_search.proofs.Changing.{Changing, kind_is}
 use Rattle.ft_search.proofs.Deletions.{deletes_known}
-use Rattle.ft_search.proofs.ReadyCommits.{entry_finishes, whole_root, whole_write, writes_begun}
+use Rattle.ft_search.proofs.ReadyCommits.{begins_entries, stores_none, entry_finishes, whole_root, whole_write, writes_begun}
 use Rattle.ft_search.proofs.Laws.{DictLaws, SetLaws}
 use Rattle.ft_search.proofs.deleting.delete_entry.Goals as goal
 use Rattle.ft_search.proofs.deleting.delete_entry.Goals.{After-start_write}
@@ -92,9 +92,10 @@ finish_entry-requires-clause-may c =
     let e = c.put_deleted.ensures in
     let d = change (goal.at.finish_entry-requires-clause-may c).After-start_write in
     let before : held_unboxed a.o (view c.start_write.new.pass) ≡ held_unboxed a.o v = ap (held_unboxed a.o) c.start_write.ensures.1 in
-    entry_finishes k a.o a.table v (view c.start_write.new.pass) (view c.put_deleted.new.pass) c.start_write.result c.requires.may c.requires.pass.1 c.start_write.ensures.1 e.only a.place (deletion (table_id a.table) a.place a.key (held_unboxed a.o v)) _ d.0
+    entry_finishes k a.o a.table v (view c.start_write.new.pass) (view c.put_deleted.new.pass) c.start_write.result (begins_entries k a.o v c.requires.pass.1 c.requires.may) c.requires.pass.1 c.start_write.ensures.1 e.only a.place (deletion (table_id a.table) a.place a.key (held_unboxed a.o v)) _ d.0
     (kind_is k v a.o c.requires.pass.1 a.pass.now.possible c.requires.may.locked)
     (e.words ∙ (λ i. with_puts (before i) (deletion (table_id a.table) a.place a.key (before i)))) e.writes.root a.called.now a.said.now c.requires.leaves
+    (λ stored has. stores_none a.o v (view c.start_write.new.pass) (view c.put_deleted.new.pass) c.start_write.result c.start_write.ensures.1 e.only c.requires.may.boxes.stored a.called.now stored)
 
 pub returns-clause-wrote : goal.returns-clause-wrote
 returns-clause-wrote c =

@@ -1,6 +1,6 @@
 use Rattle.std.proofs.Common.{◌≡◌, ℕ, ◌<◌, sym, ap, ◌∙◌, subst}
 use Rattle.ft_trace.specs.Addresses.{class_of, slots, size}
-use Rattle.ft_trace.specs.Holds.{held_unboxed}
+use Rattle.ft_trace.specs.Holds.{held_words, held_unboxed}
 use Rattle.ft_trace.specs.Pictures.{entry_offset, root_in}
 use Rattle.ft_trace.specs.ContainerStates.{kind_in}
 use Rattle.ft_trace.specs.WholeWrites.{IsNoValue}
@@ -14,6 +14,7 @@ use Rattle.ft_bank.specs.WriteSteps.{IsCareful, with_table}
 use Rattle.ft_bank.proofs.KnownAfterWrites.{put_by}
 use Rattle.ft_search.proofs.WordPlaces.{entry_is}
 use Rattle.ft_search.proofs.Puts.{few_mask, few_places, writes_on}
+use Rattle.ft_search.proofs.Owning.{keeps_put}
 use Rattle.ft_search.proofs.entries.put_entry.Goals as goal
 use Rattle.ft_search.proofs.entries.put_entry.Goals.{After-put_word, After-word_at-at}
 
@@ -62,3 +63,14 @@ pub returns-clause-writes : goal.returns-clause-writes
 returns-clause-writes c =
     writes_on (shape_of c.args.bank.now) c.args.o c.args.table (view c.args.pass.now) (view c.put_word.new.pass) c.requires.pass.1 (only_put (goal.at.returns-clause-writes c).After-put_word)
     (c.put_word.ensures.same (far (goal.at.returns-clause-writes c).After-word_at-at)) (ap root_in c.put_word.ensures.held) c.requires.writes
+
+pub returns-clause-raw : goal.returns-clause-raw
+returns-clause-raw c =
+    let a = c.args in
+    let e : c.word_at-at.result ≡ entry_offset (slots (class_of (table_id a.table))) a.place a.word = c.word_at-at.ensures ∙ entry_is (shape_of a.bank.now) a.table c.mask_of.result a.place a.word c.requires.writes.table_in c.mask_of.ensures in
+    c.put_word.ensures.held ∙ ap (λ (n : ℕ). with_table (held_words a.o (view a.pass.now)) n a.value) e
+
+pub returns-clause-own : goal.returns-clause-own
+returns-clause-own c =
+    keeps_put (view c.args.pass.now) (view c.put_word.new.pass) c.args.o (table_id c.args.table) c.word_at-at.result c.args.value c.put_word.ensures.did.1
+    (c.put_word.ensures.same (far (goal.at.returns-clause-own c).After-word_at-at))

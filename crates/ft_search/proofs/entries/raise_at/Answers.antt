@@ -2,14 +2,15 @@ use Rattle.std.proofs.Common.{◌≡◌, ℕ, ◌+◌, ◌<◌, sym, ap, ◌∙�
 use Rattle.ft_trace.specs.declared.Shape.{Shape}
 use Rattle.ft_trace.specs.Addresses.{container_count, class_of, slots}
 use Rattle.ft_trace.specs.ContainerStates.{kind_in}
-use Rattle.ft_trace.specs.Holds.{held_unboxed}
+use Rattle.ft_trace.specs.Holds.{held_words, held_unboxed}
 use Rattle.ft_trace.specs.Kinds.{IsKeyed}
 use Rattle.ft_trace.specs.Pictures.{ContainerWords, entry_offset}
 use Rattle.ft_bank.specs.Passes.{shape_of, view}
 use Rattle.ft_bank.specs.TableNames.{table_id}
 use Rattle.ft_bank.specs.WriteSteps.{IsCareful, with_table}
-use Rattle.ft_bank.proofs.KnownAfterWrites.{loaded_put, put_then}
-use Rattle.ft_search.proofs.Puts.{entry_refs, entry_room, careful_loaded}
+use Rattle.ft_bank.proofs.KnownAfterWrites.{loaded_held, loaded_put, put_then}
+use Rattle.ft_search.proofs.Puts.{entry_reads, entry_refs, entry_room, careful_loaded}
+use Rattle.ft_search.proofs.Owning.{keeps_loaded, keeps_then}
 use Rattle.ft_search.proofs.entries.raise_at.Goals as goal
 
 pub overflow_add-version : goal.overflow_add-version
@@ -47,3 +48,22 @@ returns-clause-words c =
 
 pub returns-clause-references : goal.returns-clause-references
 returns-clause-references c b = c.put_entry.ensures.references b ∙ c.read_entry-version.ensures.only.boxes.references b
+
+pub returns-clause-raw : goal.returns-clause-raw
+returns-clause-raw c =
+    let a = c.args in
+    let k = shape_of a.bank.now in
+    let v = view a.pass.now in
+    let e = c.read_entry-version.ensures in
+    let at = entry_offset (slots (class_of (table_id a.table))) a.place 0 in
+    let keyed : IsKeyed (kind_in v.shape.starts a.o) = subst (λ (z : Shape). IsKeyed (kind_in z.starts a.o)) (sym c.requires.pass.1) c.requires.writes.keyed in
+    let stands = entry_reads v a.o (table_id a.table) a.place 0 keyed c.requires.writes.root (omega arith) (λ z. absurd (omega (arith, z))) (λ z. absurd (omega (arith, z))) in
+    c.put_entry.ensures.raw
+    ∙ (ap (λ (z : ContainerWords). with_table z at (c.read_entry-version.result + 1)) (loaded_held v (view c.read_entry-version.new.pass) a.o e.only)
+    ∙ ap (λ (n : ℕ). with_table (held_words a.o v) at (n + 1)) (e.found ∙ stands))
+
+pub returns-clause-own : goal.returns-clause-own
+returns-clause-own c =
+    let v = view c.args.pass.now in
+    let u = view c.read_entry-version.new.pass in
+    keeps_then v u (view c.put_entry.new.pass) (keeps_loaded v u c.args.pass.now.possible c.read_entry-version.ensures.only) c.put_entry.ensures.own

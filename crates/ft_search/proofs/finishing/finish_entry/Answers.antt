@@ -1,12 +1,15 @@
-use Rattle.std.proofs.Common.{sym, ap, ◌∙◌, subst}
+use Rattle.std.proofs.Common.{◌≡◌, sym, ap, ◌∙◌, subst}
 use Rattle.ft_trace.specs.declared.Shape.{Shape}
 use Rattle.ft_trace.specs.declared.View.{View}
-use Rattle.ft_trace.specs.Boxes.{references_held}
+use Rattle.ft_trace.specs.Boxes.{place_use, references_held}
 use Rattle.ft_trace.specs.ContainerStates.{kind_in}
-use Rattle.ft_trace.specs.Holds.{held_unboxed, known_state}
+use Rattle.ft_trace.specs.Holds.{held_words, held_unboxed, known_state}
 use Rattle.ft_trace.specs.Kinds.{IsKeyed}
 use Rattle.ft_trace.specs.Pictures.{Represents}
 use Rattle.ft_bank.specs.Passes.{shape_of, view}
+use Rattle.ft_bank.specs.TableNames.{table_id}
+use Rattle.ft_bank.proofs.DoneBoxes.{none_taken}
+use Rattle.ft_search.specs.OneEntryWrites.{raised_at}
 use Rattle.ft_search.proofs.ReadyCommits.{close_care, stands_then, shut_then, ends_then}
 use Rattle.ft_search.proofs.finishing.finish_entry.Goals as goal
 
@@ -46,3 +49,20 @@ pub returns-clause-references : goal.returns-clause-references
 returns-clause-references c b =
     let held = λ (z : View). references_held z.shape b z.log in
     ap held c.stop_write.ensures.1 ∙ (c.raise_version.ensures.references b ∙ ap held c.commit-number.ensures.did.1.1)
+
+pub returns-clause-words : goal.returns-clause-words
+returns-clause-words c =
+    let a = c.args in
+    ap (held_unboxed a.o) c.stop_write.ensures.1 ∙ (c.raise_version.ensures.words ∙ ap (λ (z : View). raised_at (table_id a.table) a.place (held_unboxed a.o z)) c.commit-number.ensures.did.1.1)
+
+pub returns-clause-raw : goal.returns-clause-raw
+returns-clause-raw c =
+    let a = c.args in
+    ap (held_words a.o) c.stop_write.ensures.1 ∙ (c.raise_version.ensures.raw ∙ ap (λ (z : View). raised_at (table_id a.table) a.place (held_words a.o z)) c.commit-number.ensures.did.1.1)
+
+-- the write has stored each box whose place the pass had taken
+pub returns-clause-stored : goal.returns-clause-stored
+returns-clause-stored c b taken =
+    let used = λ (z : View). place_use b z.log in
+    let was : place_use b (view c.commit-number.new.pass).log ≡ 1 = sym (ap used c.stop_write.ensures.1 ∙ c.raise_version.ensures.only.made.uses b) ∙ taken in
+    none_taken (place_use b (view c.args.pass.now).log) (sym (ap used c.commit-number.ensures.did.1.1) ∙ was)

@@ -17,7 +17,7 @@ use Rattle.ft_section.proofs.ending.end.Goals as goal
 pub make_entry-number-requires-clause-said : goal.make_entry-number-requires-clause-said
 make_entry-number-requires-clause-said c =
     let split = sym (c.copied-sections.ensures ∙ c.sections.ensures) ∙ c.pop.ensures.some c.in-Some.section c.in-Some.is in
-    c.end_reply.ensures.said (view c.args.pass.now).log (λ none b bs is.
+    c.end_reply.ensures.said (view c.args.pass.now) (λ none b bs is.
     kept_held (stack_of c.args.pass.now).sections c.pop.new.self c.in-Some.section b bs split
     (subst (λ (x : List Begun). AreBegun (stack_of c.args.pass.now).sections x) is c.requires.ready.inside.1.begun) none)
 

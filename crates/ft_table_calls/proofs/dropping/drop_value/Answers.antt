@@ -13,7 +13,8 @@ use Rattle.ft_bank.proofs.DoneBoxes.{settled_then, stays_settled_same}
 use Rattle.ft_bank.proofs.KnownAfterWrites.{boxed_then, loaded_boxed, loaded_by, loaded_then}
 use Rattle.ft_search.proofs.Overs.{boxed_names, other_way, plain_names}
 use Rattle.ft_search.proofs.Owning.{held_is_box}
-use Rattle.ft_table_calls.proofs.Dropped.{hand_same, held_loaded}
+use Rattle.ft_boxes.proofs.Steps.{keeps_then}
+use Rattle.ft_table_calls.proofs.Dropped.{hand_same, held_loaded, keeps_loads}
 use Rattle.ft_table_calls.proofs.dropping.drop_value.Goals as goal
 use Rattle.ft_table_calls.proofs.dropping.drop_value.Goals.{After-read_word-kind, After-read_word-named}
 
@@ -97,6 +98,10 @@ returns-then-kind-ne-BOX_KIND-clause-references c b =
     let same = held_loaded (shape_of c.args.bank.now) (view c.args.pass.now) (view c.read_word-kind.new.pass) c.requires.pass.1 (load_kind d) b in
     omega (arith, none, same)
 
+pub returns-then-kind-ne-BOX_KIND-clause-values : goal.returns-then-kind-ne-BOX_KIND-clause-values
+returns-then-kind-ne-BOX_KIND-clause-values c =
+    keeps_loads (view c.args.pass.now) (view c.read_word-kind.new.pass) c.args.pass.now.possible (load_kind (goal.at.returns-then-kind-ne-BOX_KIND-clause-values c).After-read_word-kind)
+
 -- ---- a value in a box
 
 pub returns-clause-only : goal.returns-clause-only
@@ -124,3 +129,10 @@ returns-clause-references c b =
     let way = other_way c.read_word-named.result b in
     let two = boxed_names b 4 (slice_index hand (c.args.word + 1)) refl in
     omega (arith, same, less, names, other, at, one, way, two)
+
+pub returns-clause-values : goal.returns-clause-values
+returns-clause-values c =
+    let d = (goal.at.returns-clause-values c).After-read_word-named in
+    let v = view c.args.pass.now in
+    let w = view c.read_word-named.new.pass in
+    keeps_then v w (view c.release.new.pass) (sym (loads d).work.pass.shape) (loads d).boxes.references (keeps_loads v w c.args.pass.now.possible (loads d)) c.release.ensures.values

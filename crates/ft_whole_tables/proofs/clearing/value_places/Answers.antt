@@ -1,6 +1,5 @@
-use Rattle.std.proofs.Common.{◌≡◌, ℕ, ◌<◌, sym, ap, ◌∙◌, subst, arith}
+use Rattle.std.proofs.Common.{◌<◌, ap, ◌∙◌, arith}
 use Rattle.ft_keys.specs.Ways.{room}
-use Rattle.ft_layout.specs.Containers.{class_mask}
 use Rattle.ft_layout.proofs.Powers.{slots_range}
 use Rattle.ft_search.specs.Rounds.{kind_by}
 use Rattle.ft_search.proofs.Puts.{keyed_value}

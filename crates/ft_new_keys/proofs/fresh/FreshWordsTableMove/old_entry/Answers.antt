@@ -11,7 +11,7 @@ use Rattle.ft_trace.specs.Holds.{held_words, held_unboxed, in_hand}
 use Rattle.ft_bank.specs.Passes.{shape_of, view}
 use Rattle.ft_bank.specs.Whole.{OnlyLoaded}
 use Rattle.ft_bank.proofs.KnownAfterWrites.{loaded_by, loaded_held}
-use Rattle.ft_table_calls.proofs.Dropped.{hand_same}
+use Rattle.ft_table_calls.proofs.Dropped.{hand_same, keeps_loads}
 use Rattle.ft_table_calls.proofs.Rooting.{loaded_filled}
 use Rattle.ft_bank.specs.TableNames.{table_id}
 use Rattle.ft_search.proofs.WordPlaces.{entry_in}
@@ -109,6 +109,7 @@ returns-then-not-self-clause-gave c =
       mask = refl;
       in_place = refl;
       only = loaded_filled v w l;
+      values = keeps_loads v w s.pass.now.possible l;
       tells = tt;
       tells_old = c.read_table.ensures.held s.o can.container can.locked can.old_root
           ∙ (sym (raw_at_place (held_words s.o v).table s.old_mask c.args.place c.args.word)
@@ -137,6 +138,7 @@ returns-clause-gave c =
       mask = refl;
       in_place = refl;
       only = loaded_filled v w l;
+      values = keeps_loads v w s.pass.now.possible l;
       tells = tt;
       tells_old = c.read_table-2.ensures.held s.o can.container can.locked can.old_root
           ∙ (word_stands k s.o s.old s.old_mask c.args.place c.args.word v can.pass.1 can.keyed can.old_in can.old_mask can.old_root c.requires.place.1 c.if-word-eq-VALUE_KIND.false c.if-word-eq-VALUE.false

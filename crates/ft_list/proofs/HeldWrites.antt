@@ -40,8 +40,9 @@ use Rattle.ft_search.proofs.Owning.{held_is_box}
 use Rattle.ft_search.proofs.Puts.{few_same}
 use Rattle.ft_search.proofs.Unboxing.{reads_boxed}
 use Rattle.ft_section.specs.declared.answers.Stamp.{Stamp}
-use Rattle.ft_list.specs.HeldValues.{HoldsValue, MadeHeld}
-use Rattle.ft_list.specs.Internal.StoredBoxes.{StoresBox}
+use Rattle.ft_search.specs.HeldValues.{HoldsValue}
+use Rattle.ft_list.specs.HeldValues.{MadeHeld}
+use Rattle.ft_search.specs.HeldValues.{StoresBox}
 use Rattle.ft_list.specs.Internal.NewListTables.{KnowsList}
 use Rattle.ft_list.specs.ListItemWrites.{ReadsAs, known_items, stored_item}
 use Rattle.ft_list.specs.ListWrites.{Changes, MayBeginList, MayWriteList}
@@ -214,7 +215,7 @@ done_wrote k u w first then_ done stays same = record {
 pub done_answered : (k : Shape) (called : Call) (said : Reply) (n : ℕ) (u w : View) → u.shape ≡ k → w.shape ≡ k → IsDoneWithBoxes k u.log → Answered called said n u w → IsDoneWithBoxes k w.log
 done_answered k called said n u w first then_ done x =
     let made = stays_settled_same u x.before x.loaded.boxes.made in
-    let late = stays_settled_same x.before w (subst (SameMade x.before) (sym x.answered) (record { state = λ b. refl; local = λ b. refl; taken = λ b. refl; places = λ b. refl; uses = λ b. refl })) in
+    let late = stays_settled_same x.before w (subst (SameMade x.before) (sym x.answered) (record { state = λ b. refl; local = λ b. refl; taken = λ b. refl; places = λ b. refl; uses = λ b. refl; raised = λ b. refl })) in
     done_wrote k u w first then_ done (settled_then u x.before w made late)
     (λ b. ap (λ (z : View). references_held z.shape b z.log) x.answered ∙ x.loaded.boxes.references b)
 

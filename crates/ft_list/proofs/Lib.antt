@@ -33,7 +33,9 @@ pub mod GrowWrites
 pub mod Additions
 pub mod Emptying
 pub mod Extending
+pub mod SharedItems
 pub mod Undisturbed
 pub mod ListTries
 pub mod HeldWrites
 pub mod AddedHeld
+pub mod BoxedCalls

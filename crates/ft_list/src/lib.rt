@@ -10,6 +10,7 @@
 mod adding;
 mod addition;
 mod bare;
+mod boxed;
 mod boxing;
 mod clearing;
 mod copies;
@@ -29,12 +30,14 @@ mod removals;
 mod rooting;
 mod scans;
 mod searches;
+mod sharing;
 mod tries;
 mod turning;
 mod values;
 mod writes;
 
 pub use crate::adding::{append_by, extend_by, insert_by};
+pub use crate::boxed::{append_boxed, insert_boxed, set_boxed};
 pub use crate::boxing::{append_held, insert_held, set_held};
 pub use crate::clearing::clear_by;
 pub use crate::copies::copy_items;

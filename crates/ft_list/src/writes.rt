@@ -29,7 +29,7 @@ ghost use Rattle.ft_list.specs.HeldValues.{GivesReference, HasWordsFrom};
 ghost use Rattle.ft_list.specs.ListItemWrites.{ReadsAs, WritesList, IsPutting, known_items, stored_item, stored_words};
 ghost use Rattle.ft_list.specs.Internal.Carrying.{HoldsFewBut, HoldsSpare};
 ghost use Rattle.ft_list.specs.Internal.Moving.{IsMoving};
-ghost use Rattle.ft_list.specs.Internal.StoredBoxes.{StoresBox};
+ghost use Rattle.ft_search.specs.HeldValues.{StoresBox};
 ghost use Rattle.ft_list.specs.ListWrites.{MayBeginList, MayWriteList, Changes};
 ghost use Rattle.ft_list.specs.Internal.Additions.{count_in, stored_in, with_added, IsAddition, NamesAdded, StoresAddition};
 ghost use Rattle.ft_search.specs.OneEntryWrites.{HasTable};
@@ -217,7 +217,7 @@ pub(crate) fn add_items(
     ensures wrote { Wrote called.now reply.Done result (view pass.old) (view pass.new) }
     ensures root { root_in (held_unboxed o (view pass.new)) ≡ root_in (held_unboxed o (view pass.old)) }
     ensures references { GivesReference (shape_of bank.now) (stored_in addition) (view pass.old) (view pass.new) }
-    ensures named { NamesAdded o (known_items o (view pass.old)) addition (view pass.new) }
+    ensures named { NamesAdded o (known_items o (view pass.old)) addition (view pass.old) (view pass.new) }
     ensures stored { (b : ℕ) → place_use b (view pass.new).log ≢ use_taken }
 {
     begin(bank, pass, o, table);

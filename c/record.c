@@ -71,6 +71,7 @@ static void reply_text(rez_session *session, const rez_reply *r, char *out) {
         if (r->raised == REZ_KEYS_CHANGED) strcpy(out, " keys");
         if (r->raised == REZ_MEMORY_CLASS) sprintf(out, " %llu", (unsigned long long)r->count);
         if (r->raised == REZ_MEMORY_OVER) strcpy(out, " over");
+        if (r->raised == REZ_MEMORY_HEAP) strcpy(out, " heap");
     }
 }
 
@@ -175,6 +176,7 @@ static int in_order(const void *p, const void *q) {
 static void write_script(const rez_sizes *sizes) {
     printf("dict d\nlist l\nset s\n");
     for (int n = 0; n < 14; n++) printf("tables %d %u\n", n + 3, sizes->tables[n]);
+    printf("heap %u\n", sizes->heap);
     for (int t = 0; t < THREADS; t++) {
         printf("thread T%d\n", t);
         for (int n = 0; n < calls; n++) printf("%s\n", recorders[t].rows[n].call);

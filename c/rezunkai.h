@@ -40,7 +40,13 @@
  * LIMITS
  *     256 containers, 64 sessions, 2^32 - 1 calls of a session, 16 open sections of a session, 43,690 pairs in a dict,
  *     39,321 elements in a set, 65,536 items in a list, 65,536 texts, 65,536 cursors of a session, 1 to 1,024 tables of a
- *     class. None of them can grow after rez_open.
+ *     class, 64 to 4,096 places for boxed values of a session. None of them can grow after rez_open.
+ *
+ * BOXED VALUES
+ *     An integer outside -5..256 or a string takes a place of the session that stores it with REZ_D_SET, REZ_D_SETDEFAULT,
+ *     REZ_L_APPEND, REZ_L_INSERT or REZ_L_SET. Where all of its places are in use, the call raises REZ_MEMORY_HEAP. The place
+ *     is free again once no container has the value: at once where the session itself dropped it, and else at the latest with
+ *     its next REZ_QUIESCE or rez_leave.
  *
  * WHAT IS PROVED
  *     The library is proved: it is memory-safe and each export ends, given handles as rez_open fills them, one call at a
@@ -93,6 +99,7 @@ typedef struct {
     uint32_t calls;                 /* how many calls each session may make */
     uint32_t cursors;               /* how many cursors each session has room for, at most 65,536 */
     uint32_t texts;                 /* how many strings may be keys, at most 65,536; a value may be any string */
+    uint32_t heap;                  /* places for boxed values of each session: 64 to 4,096 in steps of 64 */
     uint32_t tables[14];            /* tables of 2^3, 2^4, .. 2^16 slots: 1 to 1,024 of each */
 } rez_sizes;
 
@@ -176,7 +183,7 @@ typedef enum {
     REZ_BEGIN,          /* begins a critical section on the container (Py_BEGIN_CRITICAL_SECTION) */
     REZ_BEGIN2,         /* begins one on the container and the other (Py_BEGIN_CRITICAL_SECTION2) */
     REZ_END,            /* ends the innermost section: REZ_R_KEPT or REZ_R_SUSPENDED */
-    REZ_QUIESCE         /* a quiescent point: tables that others retired may be free again */
+    REZ_QUIESCE         /* a quiescent point: tables that others retired, and places whose values others dropped, may be free again */
 } rez_op;
 
 typedef enum {
@@ -193,13 +200,13 @@ typedef enum {
     REZ_KEYS_CHANGED,    /* RuntimeError: the keys changed in a walk */
     REZ_MEMORY_CLASS,    /* MemoryError: every table of class `count` was taken */
     REZ_MEMORY_OVER,     /* MemoryError: more than the largest table holds */
-    REZ_MEMORY_HEAP,     /* MemoryError: no place was left for a boxed value; nothing raises it yet */
+    REZ_MEMORY_HEAP,     /* MemoryError: the session had no place left for a boxed value */
     REZ_DEQUE_CHANGED    /* RuntimeError: a deque was changed in a walk; nothing raises it yet */
 } rez_exception;
 
 /* ---- what the library exports, without any test of pointers: use the functions below in place of these */
 
-typedef struct { uint32_t dicts, lists, sets, sessions, calls, cursors, texts; } ft_sizes;
+typedef struct { uint32_t dicts, lists, sets, sessions, calls, cursors, texts, heap; } ft_sizes;
 uint32_t ft_open(const ft_sizes *sizes, const uint32_t *tables, size_t table_count, rez_handle *out, size_t out_count);
 uint32_t ft_texts_open(rez_handle *out);
 uint32_t ft_close(rez_held held, uint32_t open);
@@ -269,10 +276,10 @@ static inline void rez_pause(unsigned tries) {
 /* ---- opening and closing */
 
 /* rez_sizes_of - the sizes of an engine with so many containers and sessions: 2^32 - 1 calls a session, 16 cursors, 65,536
- * strings, and tables of which an engine takes some 16 MB. For many or great containers
+ * strings, 4,096 places for boxed values a session, and tables of which an engine takes some 16 MB. For many or great containers
  * raise `tables`: a container of n slots takes one table of 2^k >= n slots, and each growth takes the next. */
 static inline rez_sizes rez_sizes_of(uint32_t dicts, uint32_t lists, uint32_t sets, uint32_t sessions) {
-    rez_sizes s = {dicts, lists, sets, sessions, UINT32_MAX, 16, 65536,
+    rez_sizes s = {dicts, lists, sets, sessions, UINT32_MAX, 16, 65536, 4096,
                    {512, 256, 256, 128, 128, 64, 32, 16, 8, 8, 4, 2, 1, 1}};
     return s;
 }
@@ -285,7 +292,7 @@ static inline rez_status rez_open(const rez_sizes *sizes, rez_session *sessions)
     if (sizes == NULL || sessions == NULL) return REZ_NULL;
     if (sizes->sessions < 1 || sizes->sessions > 64) return REZ_SIZES;
     ft_sizes plain = {sizes->dicts, sizes->lists, sizes->sets, sizes->sessions,
-                      sizes->calls, sizes->cursors, sizes->texts};
+                      sizes->calls, sizes->cursors, sizes->texts, sizes->heap};
     memset(opened, 0, sizeof opened);
     rez_status status = (rez_status)ft_open(&plain, sizes->tables, 14, opened, sizes->sessions);
     if (status != REZ_DONE) {
@@ -387,14 +394,20 @@ static inline void rez_pause_for_tables(unsigned tries) {
     }
 }
 
+/* Whether what a call lacked may be there after a quiescent point, when it was made again that often. */
+static inline int rez_may_come(const rez_reply *reply, unsigned tries) {
+    if (reply->tag != REZ_R_RAISED) return 0;
+    return reply->raised == REZ_MEMORY_CLASS ? tries < REZ_RETRIES : reply->raised == REZ_MEMORY_HEAP && tries == 0;
+}
+
 /* rez_call - a call until it is done. Where it raises MemoryError since every table of a class is taken, it makes a
  * REZ_QUIESCE and the same call again, at most REZ_RETRIES times, with pauses, so that other threads can let retired
- * tables go; each of these is a call of the session. The answer is that of the last. It waits for other threads. Where no
- * table comes back it takes some 0.15 s before it answers the MemoryError. */
+ * tables go; each of these is a call of the session. Where no place is left for a boxed value it does so once. The answer is
+ * that of the last. It waits for other threads. Where no table comes back it takes some 0.15 s before it answers the
+ * MemoryError. */
 static inline rez_status rez_call(rez_session *session, const rez_request *request, rez_reply *reply) {
     rez_status status = rez_call_once(session, request, reply);
-    for (unsigned tries = 0; status == REZ_DONE && reply->tag == REZ_R_RAISED && reply->raised == REZ_MEMORY_CLASS
-                             && tries < REZ_RETRIES && rez_left(session) >= 2; tries++) {
+    for (unsigned tries = 0; status == REZ_DONE && rez_may_come(reply, tries) && rez_left(session) >= 2; tries++) {
         rez_request rest = rez_on(REZ_QUIESCE, 0);
         status = rez_call_once(session, &rest, reply);
         if (status != REZ_DONE) break;

@@ -134,12 +134,9 @@ static int quiesce_all(void) {
     return 0;
 }
 
-/* How often a call that found every table of a class taken is made again at most. */
-enum { RETRIES = 1000 };
-
 static int make_in(int s, const rez_request *q, rez_reply *r) {
     if (make_once(s, q, r)) return -1;
-    for (int tries = 0; r->tag == REZ_R_RAISED && r->raised == REZ_MEMORY_CLASS && tries < RETRIES; tries++) {
+    for (int tries = 0; rez_may_come(r, tries); tries++) {
         if (tries > 1 && entered > 1) {     /* the others may be in a call */
             Py_BEGIN_ALLOW_THREADS
             rez_pause(8);
@@ -241,6 +238,7 @@ static PyObject *raised(const rez_reply *r, PyObject *key, const char *said) {
     case REZ_SIZE_CHANGED: PyErr_Format(PyExc_RuntimeError, "%s changed size during iteration", said ? said : "dictionary"); break;
     case REZ_KEYS_CHANGED: PyErr_Format(PyExc_RuntimeError, "%s keys changed during iteration", said ? said : "dictionary"); break;
     case REZ_MEMORY_CLASS: PyErr_Format(PyExc_MemoryError, "no table of %d slots is left", 1 << r->count); break;
+    case REZ_MEMORY_HEAP: PyErr_SetString(PyExc_MemoryError, "this thread has no place left for an int outside -5..256 or a str as a value"); break;
     default: PyErr_SetString(PyExc_MemoryError, "more than the largest table holds");
     }
     return NULL;
@@ -499,12 +497,12 @@ static PyTypeObject WalkType = {PyVarObject_HEAD_INIT(NULL, 0).tp_name = "rezunk
 
 /* ---- functions */
 
-/* open(dicts, lists, sets, threads, tables, objects) */
+/* open(dicts, lists, sets, threads, tables, heap, objects) */
 static PyObject *open_sizes(PyObject *self, PyObject *args) {
     rez_sizes sizes = usual_sizes();
     PyObject *tables;
     int objects;
-    if (!PyArg_ParseTuple(args, "IIIIOp", &sizes.dicts, &sizes.lists, &sizes.sets, &sizes.sessions, &tables, &objects)) return NULL;
+    if (!PyArg_ParseTuple(args, "IIIIOIp", &sizes.dicts, &sizes.lists, &sizes.sets, &sizes.sessions, &tables, &sizes.heap, &objects)) return NULL;
     if (is_open) return PyErr_Format(PyExc_RuntimeError, "the engine is open: open() comes before the first container");
     if (tables != Py_None) {
         PyObject *all = PySequence_Fast(tables, "tables are 14 counts");

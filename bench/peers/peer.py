@@ -7,14 +7,19 @@ import sys
 import threading
 import time
 
-GET, SET, ITEM, APPEND, ADD, DISCARD, HAS = range(7)
+GET, SET, GET_BOXED, SET_BOXED, ITEM, APPEND, ADD, DISCARD, HAS = range(9)
 WORKLOADS = {
     "A": ("dict", 0), "B": ("dict", 5), "C": ("dict", 50),
+    "Ab": ("boxes", 0), "Bb": ("boxes", 5), "Cb": ("boxes", 50),
     "D": ("growth", 32768), "Ds": ("growth", 2730),
     "E": ("list", 50), "E95": ("list", 5),
     "F": ("set", 25), "F90": ("set", 5),
 }
 OPERATIONS, BATCH, APPENDS, FIRST_PAIRS, GETS = 16384, 1024, 3072, 8, 64
+# A value has eight bits: the lower five are those of the key, the others those of the serial; python3 has these integers
+# from its start. A value in a "box" has 40, of which it makes each anew: the highest is set, then come 29 of the serial,
+# and the lower ten are the key.
+LEAST, SERIALS = 2**39, 2**29
 
 
 def operation_of(way, part, number):
@@ -22,6 +27,8 @@ def operation_of(way, part, number):
     key, p = high // 8 % 1000, high // 8000 % 100
     if way == "dict":
         return (SET if p < part else GET, key)
+    if way == "boxes":
+        return (SET_BOXED if p < part else GET_BOXED, key)
     if way == "growth":
         return (GET, key % 8)
     if way == "list":
@@ -58,24 +65,31 @@ def make(course, tally, chosen):
     d, l, s, serial, wrong = course.dict, course.list, course.set, tally.serial, 0
     for kind, key in chosen:
         if kind == GET:
-            if d[key] & 1023 != key:
+            if d[key] & 31 != key % 32:
                 wrong += 1
         elif kind == SET:
             serial += 1
-            d[key] = serial * 1024 + key
+            d[key] = serial % 8 * 32 + key % 32
+        elif kind == GET_BOXED:
+            value = d[key]
+            if value < LEAST or value & 1023 != key:
+                wrong += 1
+        elif kind == SET_BOXED:
+            serial += 1
+            d[key] = LEAST + serial * 1024 + key
         elif kind == ITEM:
-            if l[key] & 1023 != key:
+            if l[key] & 31 != key % 32:
                 wrong += 1
         elif kind == APPEND:
             serial += 1
-            l.append(serial * 1024 + key)
+            l.append(serial % 8 * 32 + key % 32)
         elif kind == ADD:
             s.add(key)
         elif kind == DISCARD:
             s.discard(key)
         else:
             key in s
-    tally.serial = serial % 2**32
+    tally.serial = serial % SERIALS
     tally.made += len(chosen) - wrong
     tally.wrong += wrong
 
@@ -104,12 +118,14 @@ def freshen(course):
     if course.way == "growth":
         course.dict = {key: key for key in range(FIRST_PAIRS)}
     elif course.way == "list":
-        course.list = list(range(1000))
+        course.list = [key % 32 for key in range(1000)]
 
 
 def fill(course):
     if course.way == "dict":
-        course.dict = {key: key for key in range(1000)}
+        course.dict = {key: key % 32 for key in range(1000)}
+    elif course.way == "boxes":
+        course.dict = {key: LEAST + key for key in range(1000)}
     elif course.way == "set":
         course.set = set(range(0, 1000, 2))
 

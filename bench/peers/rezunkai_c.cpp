@@ -1,4 +1,5 @@
 // This library from C: the calls of c/rezunkai.h, with rez_dict_get and rez_dict_set on a dict, and rez_call elsewhere.
+// A session has 64 places for boxes, so dicts of a thousand values in boxes can't be had.
 #include "streams.hpp"
 #include "rezunkai.h"
 
@@ -6,7 +7,7 @@ static std::atomic<u32> given{0};
 
 struct Peer {
     rez_session sessions[64] = {};
-    static bool has(const Workload&) { return true; }
+    static bool has(const Workload& w) { return w.way != Workload::Boxes; }
     Peer() {
         rez_sizes sizes = rez_sizes_of(1, 1, 1, 64);
         for (u32 c = 0; c < 14; c++) sizes.tables[c] = c < 10 ? 64 : 8;
@@ -31,14 +32,14 @@ struct Peer {
         rez_datum key = rez_int(o.key), none = rez_none(), value;
         rez_reply reply;
         switch (o.kind) {
-        case Kind::Get: return rez_dict_get(mine(), 0, key, &value) == REZ_DONE && is_value_at(o.key, value.value);
+        case Kind::Get: return rez_dict_get(mine(), 0, key, &value) == REZ_DONE && is_small_at(o.key, value.value);
         case Kind::Set: {
-            value = rez_int(value_of(o.key, serial));
+            value = rez_int(small_of(o.key, serial));
             if (rez_dict_set(mine(), 0, key, value) == REZ_DONE) return true;
             return is_done(REZ_D_SET, 0, key, value);    // a table was wanted
         }
-        case Kind::Item: return call(REZ_L_GET, 1, none, none, o.key, reply) && is_value_at(o.key, reply.value.value);
-        case Kind::Append: return is_done(REZ_L_APPEND, 1, none, rez_int(value_of(o.key, serial)));
+        case Kind::Item: return call(REZ_L_GET, 1, none, none, o.key, reply) && is_small_at(o.key, reply.value.value);
+        case Kind::Append: return is_done(REZ_L_APPEND, 1, none, rez_int(small_of(o.key, serial)));
         case Kind::Add: return is_done(REZ_S_ADD, 2, key, none);
         case Kind::Discard: return is_done(REZ_S_DISCARD, 2, key, none);
         default: return call(REZ_S_HAS, 2, key, none, 0, reply) && reply.tag == REZ_R_TRUTH;

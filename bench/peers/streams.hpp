@@ -7,6 +7,7 @@
 #include <cstdio>
 #include <cstdlib>
 #include <cstring>
+#include <memory>
 #include <string>
 #include <thread>
 #include <vector>
@@ -15,7 +16,7 @@ using u32 = std::uint32_t;
 using u64 = std::uint64_t;
 using i64 = std::int64_t;
 
-enum class Kind : u32 { Get, Set, Item, Append, Add, Discard, Has };
+enum class Kind : u32 { Get, Set, GetBoxed, SetBoxed, Item, Append, Add, Discard, Has };
 struct Operation {
     Kind kind;
     u32 key;
@@ -24,11 +25,12 @@ struct Operation {
 // A workload: what it works on, and how many of a hundred operations write; for a growth how many pairs there are.
 struct Workload {
     const char* name;
-    enum Way { Dict, Growth, List, Set } way;
+    enum Way { Dict, Boxes, Growth, List, Set } way;
     u32 part;
 };
 static const Workload workloads[] = {
     {"A", Workload::Dict, 0},   {"B", Workload::Dict, 5},   {"C", Workload::Dict, 50},
+    {"Ab", Workload::Boxes, 0}, {"Bb", Workload::Boxes, 5}, {"Cb", Workload::Boxes, 50},
     {"D", Workload::Growth, 32768}, {"Ds", Workload::Growth, 2730},
     {"E", Workload::List, 50},  {"E95", Workload::List, 5},
     {"F", Workload::Set, 25},   {"F90", Workload::Set, 5},
@@ -36,8 +38,17 @@ static const Workload workloads[] = {
 
 constexpr u32 operation_count = 16384, batch = 1024, appends = 3072, first_pairs = 8, gets = 64;
 
-inline i64 value_of(u32 key, u32 serial) { return i64(serial) * 1024 + i64(key); }
-inline bool is_value_at(u32 key, i64 value) { return (value & 1023) == i64(key); }
+// A value has eight bits: the lower five are those of the key, the others those of the serial. In a box it has 40: the
+// highest is set, then come 29 of the serial, and the lower ten are the key.
+constexpr i64 least = i64(1) << 39;
+inline i64 small_of(u32 key, u32 serial) { return i64(serial % 8 * 32 + key % 32); }
+inline bool is_small_at(u32 key, i64 value) { return value < 256 && (value & 31) == i64(key % 32); }
+inline i64 boxed_of(u32 key, u32 serial) { return least + i64(serial % (1u << 29)) * 1024 + i64(key); }
+inline bool is_boxed_at(u32 key, i64 value) { return value >= least && (value & 1023) == i64(key); }
+
+// A value in a box, which those who read it and the dict count.
+using Box = std::shared_ptr<const i64>;
+inline Box box_of(u32 key, u32 serial) { return std::make_shared<const i64>(boxed_of(key, serial)); }
 
 inline std::vector<Operation> operations(const Workload& w, u32 thread) {
     std::vector<Operation> made;
@@ -48,6 +59,7 @@ inline std::vector<Operation> operations(const Workload& w, u32 thread) {
         u32 key = r / 8 % 1000, p = r / 8000 % 100;
         switch (w.way) {
         case Workload::Dict: made.push_back({p < w.part ? Kind::Set : Kind::Get, key}); break;
+        case Workload::Boxes: made.push_back({p < w.part ? Kind::SetBoxed : Kind::GetBoxed, key}); break;
         case Workload::Growth: made.push_back({Kind::Get, key % 8}); break;
         case Workload::List: made.push_back({p < w.part ? Kind::Append : Kind::Item, key}); break;
         case Workload::Set:

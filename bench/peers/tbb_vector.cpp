@@ -9,8 +9,8 @@ struct Peer : Plain {
     std::unique_ptr<List> list = std::make_unique<List>();
     static bool has(const Workload& w) { return w.way == Workload::List; }
     bool make(Operation o, u32 serial) {
-        if (o.kind == Kind::Item) return o.key < list->size() && is_value_at(o.key, (*list)[o.key]);
-        list->push_back(value_of(o.key, serial));
+        if (o.kind == Kind::Item) return o.key < list->size() && is_small_at(o.key, (*list)[o.key]);
+        list->push_back(small_of(o.key, serial));
         return true;
     }
     void fill(Workload::Way) {}

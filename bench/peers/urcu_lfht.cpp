@@ -1,5 +1,6 @@
 // liburcu's cds_lfht, a lock-free hash table under RCU of the flavour memb: a read is a lookup inside a read-side
-// critical section; a set replaces the node and frees the old one after a grace period, by call_rcu.
+// critical section; a set replaces the node and frees the old one after a grace period, by call_rcu. A value in a box is a
+// std::shared_ptr of the node, which who gets it copies inside the critical section and reads after it.
 #include "streams.hpp"
 #define _LGPL_SOURCE 1
 #define URCU_INLINE_SMALL_FUNCTIONS 1
@@ -11,6 +12,7 @@ struct Node {
     cds_lfht_node node;
     rcu_head head;
     i64 key, value;
+    Box box;
 };
 static unsigned long hash_of(i64 key) {
     u64 h = u64(key) * 0x9e3779b97f4a7c15ull;
@@ -34,27 +36,32 @@ struct Peer {
     static cds_lfht* fresh() {
         return cds_lfht_new_flavor(8, 8, 0, CDS_LFHT_AUTO_RESIZE | CDS_LFHT_ACCOUNTING, &urcu_memb_flavor, nullptr);
     }
-    Node* made(i64 key, i64 value) {
+    Node* made(i64 key, i64 value, Box box = {}) {
         Node* n = new Node;
-        n->key = key, n->value = value;
+        n->key = key, n->value = value, n->box = std::move(box);
         cds_lfht_node_init(&n->node);
         return n;
     }
     bool make(Operation o, u32 serial) {
         i64 key = o.key;
         bool right = true;
+        Box box;
         cds_lfht_iter at;
         urcu_memb_read_lock();
         switch (o.kind) {
         case Kind::Get:
+        case Kind::GetBoxed:
         case Kind::Has: {
             cds_lfht_lookup(table, hash_of(key), is_key, &key, &at);
             cds_lfht_node* n = cds_lfht_iter_get_node(&at);
-            if (o.kind == Kind::Get) right = n && is_value_at(o.key, node_of(n)->value);
+            if (o.kind == Kind::Get) right = n && is_small_at(o.key, node_of(n)->value);
+            if (o.kind == Kind::GetBoxed && n) box = node_of(n)->box;
             break;
         }
-        case Kind::Set: {
-            Node* n = made(key, value_of(o.key, serial));
+        case Kind::Set:
+        case Kind::SetBoxed: {
+            bool boxed = o.kind == Kind::SetBoxed;
+            Node* n = boxed ? made(key, 0, box_of(o.key, serial)) : made(key, small_of(o.key, serial));
             cds_lfht_node* old = cds_lfht_add_replace(table, hash_of(key), is_key, &key, &n->node);
             if (old) urcu_memb_call_rcu(&node_of(old)->head, free_node);
             break;
@@ -73,12 +80,14 @@ struct Peer {
         default: right = false;
         }
         urcu_memb_read_unlock();
+        if (o.kind == Kind::GetBoxed) return box && is_boxed_at(o.key, *box);
         return right;
     }
     void fill(Workload::Way way) {
         table = fresh();
         for (u32 key = 0; key < 1000; key++) {
             if (way == Workload::Dict) make({Kind::Set, key}, 0);
+            if (way == Workload::Boxes) make({Kind::SetBoxed, key}, 0);
             if (way == Workload::Set && key % 2 == 0) make({Kind::Add, key}, 0);
         }
     }

@@ -62,6 +62,9 @@ static void sizes(void) {
     t = s, t.sessions = 65, CHECK(rez_open(&t, out) == REZ_SIZES);
     t = s, t.texts = 65537, CHECK(rez_open(&t, out) == REZ_SIZES);
     t = s, t.cursors = 65537, CHECK(rez_open(&t, out) == REZ_SIZES);
+    t = s, t.heap = 0, CHECK(rez_open(&t, out) == REZ_SIZES);
+    t = s, t.heap = 100, CHECK(rez_open(&t, out) == REZ_SIZES);
+    t = s, t.heap = 4160, CHECK(rez_open(&t, out) == REZ_SIZES);
     t = s, t.tables[0] = 0, CHECK(rez_open(&t, out) == REZ_SIZES);
     t = s, t.tables[13] = 1025, CHECK(rez_open(&t, out) == REZ_SIZES);
     for (int n = 0; n < 64; n++) CHECK(out[n].handle.open == 0 && out[n].handle.held.at == NULL);

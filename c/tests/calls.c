@@ -79,6 +79,18 @@ static void lists(void) {
     CHECK(is_raised(made(rez_on(REZ_L_POP, L)), REZ_NO_INDEX) && is_truth(made(with_other(REZ_L_EQ, L, L2)), 1));
 }
 
+/* A session has 64 places: a value takes one until no container has it. */
+static void heaps(void) {
+    for (int n = 0; n < 64; n++) CHECK(is_done(made(with_value(REZ_L_APPEND, L, i(1000)))));
+    CHECK(is_raised(made(with_value(REZ_L_APPEND, L, i(1000))), REZ_MEMORY_HEAP));
+    CHECK(is_raised(made(with_value(REZ_L_APPEND, L, rez_text_datum(7))), REZ_MEMORY_HEAP));
+    CHECK(is_raised(made(with_pair(REZ_D_SET, D, i(1000), i(257))), REZ_MEMORY_HEAP));
+    CHECK(is_done(made(with_pair(REZ_D_SET, D, i(1000), i(256)))) && is_value(made(rez_on(REZ_L_POP, L)), 1000));
+    CHECK(is_done(made(with_pair(REZ_D_SET, D, i(1000), i(257)))) && is_value(made(with_key(REZ_D_GET, D, i(1000))), 257));
+    CHECK(rez_dict_set(&session, D, i(2), i(-6)) == REZ_RAISED && is_done(made(rez_on(REZ_L_CLEAR, L))));
+    CHECK(rez_dict_set(&session, D, i(2), i(-6)) == REZ_DONE && is_done(made(rez_on(REZ_D_CLEAR, D))));
+}
+
 static void sets(void) {
     for (int n = 1; n <= 3; n++) CHECK(is_done(made(with_key(REZ_S_ADD, S, i(n)))) && is_done(made(with_key(REZ_S_ADD, S2, i(n + 1)))));
     CHECK(is_truth(made(with_key(REZ_S_HAS, S, i(1))), 1) && is_count(made(rez_on(REZ_S_LEN, S)), 3));
@@ -106,8 +118,9 @@ static void sections(void) {
 
 int main(void) {
     rez_sizes sizes = rez_sizes_of(2, 2, 2, 1);
+    sizes.heap = 64;
     CHECK(rez_open(&sizes, &session) == REZ_DONE && rez_enter(&session) == REZ_DONE);
-    dicts(), lists(), sets(), sections();
+    dicts(), lists(), heaps(), sets(), sections();
     CHECK(rez_close(&session) == REZ_DONE);
     return tell("calls");
 }

@@ -96,6 +96,7 @@ class Record:
         numbers = range(self._sizes["dicts"] + self._sizes["lists"] + self._sizes["sets"])
         lines = [f"{WORDS[self._kind(n)]} {self._name(n)}" for n in numbers]
         lines += [f"tables {n + 3} {count}" for n, count in enumerate(self._sizes["tables"])]
+        lines.append(f"heap {self._sizes['heap']}")
         for thread in range(max(made, default=-1) + 1):
             lines.append(f"thread T{thread}")
             lines += [row.call for row in rows if row.thread == thread]
@@ -114,10 +115,10 @@ class Record:
             file.write(text)
 
 
-def record(*, dicts=4, lists=4, sets=4, threads=64):
+def record(*, dicts=4, lists=4, sets=4, threads=64, heap=4096):
     """Opens the engine as open() does, and keeps every call that any thread makes from now on. It comes before the first
     container is made: a judge needs all calls."""
     tables = (64, 64, 64, 64, 32, 32, 16, 8, 4, 4, 2, 2, 1, 1)
-    made = Record({"dicts": dicts, "lists": lists, "sets": sets, "tables": tables})
-    _rezunkai.open(dicts, lists, sets, threads, tables, False)
+    made = Record({"dicts": dicts, "lists": lists, "sets": sets, "tables": tables, "heap": heap})
+    _rezunkai.open(dicts, lists, sets, threads, tables, heap, False)
     return made

@@ -147,15 +147,33 @@ class Calls(Alone):
         d, l = rezunkai.dict(), rezunkai.list()
         with self.assertRaises(MemoryError):
             for n in range(43691):
-                d[n] = n
+                d[n] = n % 256
         self.assertEqual(len(d), 43690)
-        l.extend(range(65536))
+        l.extend(n % 256 for n in range(65536))
         with self.assertRaises(MemoryError):
             l.append(0)
         with self.assertRaises(RuntimeError):
             with rezunkai.section(d):
                 for _ in range(16):
                     rezunkai.section(d).__enter__()
+
+    def test_heap(self):
+        rezunkai.open(heap=64)
+        d, l = rezunkai.dict(), rezunkai.list(["a"] * 60)
+        d["n"], d["m"], d[1000], d["o"] = 257, -6, "b", 2**40
+        for call in (lambda: l.append(1000), lambda: l.append(""), lambda: l.insert(0, 257), lambda: l.__setitem__(0, "b"),
+                     lambda: d.__setitem__("n", 300), lambda: d.setdefault("p", "c")):
+            self.assertRaises(MemoryError, call)
+        self.assertEqual((d, l), ({"n": 257, "m": -6, 1000: "b", "o": 2**40}, ["a"] * 60))
+        l.append(256)
+        d["n"] = None
+        l[0] = "b"
+        self.assertEqual((d["n"], l[0], l[-1]), (None, "b", 256))
+        self.run_all(lambda n: l.append(1000 + n), 3)
+        del d["m"]
+        self.run_all(lambda n: l.clear() if n == 0 else None, 2)
+        l.extend(range(1000, 1060))
+        self.assertEqual(l, [*range(1000, 1060)])
 
     def test_objects(self):
         rezunkai.open(objects=True)

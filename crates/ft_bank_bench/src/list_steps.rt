@@ -118,14 +118,14 @@ pub fn make_lists(alloc: Global, calls: u32) -> Result<Option<Lists>, AllocError
     }
 }
 
-/// The first item of a list is set, each time to another integer. Answers how often that was done.
+/// The first item of a list is set, each time to another small integer. Answers how often that was done.
 pub fn set_all(bank: &Bank, pass: &mut Pass, l: u32, rounds: u32) -> u32
     requires { MayCallList bank.now pass.old l }
     ensures { MayCallList bank.now pass.new l }
 {
     let mut done = 0u32;
     for round in 0..rounds {
-        if set(bank, pass, l, i64::from(round)) {
+        if set(bank, pass, l, i64::from(round % 256)) {
             done = done.saturating_add(1);
         }
     }
@@ -140,7 +140,7 @@ pub fn retire_all(bank: &Bank, pass: &mut Pass, l: u32, rounds: u32) -> u32
 {
     let mut done = 0u32;
     for round in 0..rounds {
-        if append(bank, pass, l, i64::from(round)) && clear(bank, pass, l) {
+        if append(bank, pass, l, i64::from(round % 256)) && clear(bank, pass, l) {
             done = done.saturating_add(1);
         }
     }

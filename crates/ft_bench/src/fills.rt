@@ -11,16 +11,20 @@ const ITEMS: u32 = 1;
 /// The call that puts the integer into what a run begins with, if it is to be there.
 fn fill_of(workload: Workload, key: u32) -> Option<Call> {
     match workload {
-        Workload::Dict(_) => Some(call_of(Operation::Set(key), 0)),
+        Workload::Dict(_) | Workload::Boxes(_) => {
+            Some(call_of(Operation::Set(key), &workload.values(), 0))
+        }
         Workload::Growth(_) => None,
-        Workload::List(_) => match call_of(Operation::Append(key), 0) {
+        Workload::List(_) => match call_of(Operation::Append(key), &workload.values(), 0) {
             Call::List { call, .. } => Some(Call::List {
                 container: ITEMS,
                 call,
             }),
             _ => None,
         },
-        Workload::Set(_) if key % 2 == 0 => Some(call_of(Operation::Add(key), 0)),
+        Workload::Set(_) if key % 2 == 0 => {
+            Some(call_of(Operation::Add(key), &workload.values(), 0))
+        }
         Workload::Set(_) | Workload::Script => None,
     }
 }
@@ -43,14 +47,14 @@ pub(crate) fn freshens(alloc: Global, workload: Workload) -> Result<Vec<Call>, A
         Workload::Growth(_) => {
             calls.push(on_dict(DictCall::Clear))?;
             for key in 0..8 {
-                calls.push(call_of(Operation::Set(key), 0))?;
+                calls.push(call_of(Operation::Set(key), &workload.values(), 0))?;
             }
         }
         Workload::List(_) => {
             calls.push(on_list(ListCall::Clear))?;
             calls.push(on_list(ListCall::Extend { other: ITEMS }))?;
         }
-        Workload::Dict(_) | Workload::Set(_) | Workload::Script => {}
+        Workload::Dict(_) | Workload::Boxes(_) | Workload::Set(_) | Workload::Script => {}
     }
     Ok(calls)
 }

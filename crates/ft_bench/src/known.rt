@@ -5,7 +5,7 @@ ghost use Rattle.ft_engine.specs.declared.caller.Caller.{Caller as ACaller};
 ghost use Rattle.ft_engine.specs.MadeCalls.{IsCallFor, IsLookFor};
 ghost use Rattle.ft_bench.specs.Threads.{IsReadyCaller};
 
-use crate::operation::{Operation, SHARED, key_of, value_of};
+use crate::operation::{Operation, SHARED, key_of};
 use crate::worker::Worker;
 use ft_engine::{Called, Engine};
 use ft_section::Look;
@@ -98,7 +98,7 @@ pub(crate) fn set<R: Wait>(rt: &R, engine: &Engine, alloc: Global, worker: &mut 
     if !engine.may_at_key(&worker.caller, SHARED, key) {
         return worker.tally.count_none();
     }
-    let pair = (key, value_of(number, worker.tally.serial));
+    let pair = (key, worker.tally.value_at(number));
     let called = engine.dict_set(rt, alloc, &mut worker.caller, SHARED, pair);
     end_call(engine, worker, Operation::Set(number), &called);
 }
@@ -117,7 +117,7 @@ pub(crate) fn append<R: Wait>(
     if !engine.may_on_list(&worker.caller, SHARED) {
         return worker.tally.count_none();
     }
-    let value = value_of(number, worker.tally.serial);
+    let value = worker.tally.value_at(number);
     let called = engine.list_append(rt, alloc, &mut worker.caller, SHARED, value);
     end_call(engine, worker, Operation::Append(number), &called);
 }

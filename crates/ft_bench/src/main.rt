@@ -20,6 +20,7 @@ mod shape;
 mod start;
 mod stream;
 mod threads;
+mod values;
 mod words;
 mod worker;
 mod workload;

@@ -1,6 +1,7 @@
 //! An operation of a thread: the call that it makes, and whether its reply is right.
 
-use ft_model::{Call, DictCall, Key, ListCall, Reply, SetCall, Value};
+use crate::values::Values;
+use ft_model::{Call, DictCall, Key, ListCall, Reply, SetCall};
 
 /// The container that the threads of a run call on.
 pub(crate) const SHARED: u32 = 0;
@@ -24,32 +25,26 @@ pub enum Operation {
     Has(u32),
 }
 
-/// The value that is stored at a key, or as the item at an index: its low ten bits are the key.
-#[inline(always)]
-pub(crate) fn value_of(key: u32, serial: u32) -> Value {
-    Value::Int(i64::from(serial) * 1024 + i64::from(key))
-}
-
 /// The integer as a key.
 #[inline(always)]
 pub(crate) fn key_of(key: u32) -> Key {
     Key::Int(i64::from(key))
 }
 
-/// The call of an operation; a value is made of the serial.
+/// The call of an operation; a value is one of these, with this serial.
 #[inline(always)]
-pub(crate) fn call_of(operation: Operation, serial: u32) -> Call {
+pub(crate) fn call_of(operation: Operation, values: &Values, serial: u32) -> Call {
     match operation {
         Operation::Get(key) => on_dict(DictCall::Get { key: key_of(key) }),
         Operation::Set(key) => on_dict(DictCall::Set {
             key: key_of(key),
-            value: value_of(key, serial),
+            value: values.at(key, serial),
         }),
         Operation::Item(index) => on_list(ListCall::Get {
             index: i64::from(index),
         }),
         Operation::Append(key) => on_list(ListCall::Append {
-            value: value_of(key, serial),
+            value: values.at(key, serial),
         }),
         Operation::Add(key) => on_set(SetCall::Add { key: key_of(key) }),
         Operation::Discard(key) => on_set(SetCall::Discard { key: key_of(key) }),
@@ -84,18 +79,11 @@ pub(crate) fn on_set(call: SetCall) -> Call {
     }
 }
 
-/// Whether the reply is the value at that key, or the item at that index: its low ten bits are the key.
-fn is_value_at(key: u32, reply: &Reply) -> bool {
-    match reply {
-        Reply::Value(Value::Int(value)) => *value & 1023 == i64::from(key),
-        _ => false,
-    }
-}
-
-/// Whether the reply may be that of the operation.
-pub(crate) fn is_right(operation: Operation, reply: &Reply) -> bool {
+/// Whether the reply may be that of the operation, where these are the values.
+#[inline(always)]
+pub(crate) fn is_right(operation: Operation, values: &Values, reply: &Reply) -> bool {
     match operation {
-        Operation::Get(key) | Operation::Item(key) => is_value_at(key, reply),
+        Operation::Get(key) | Operation::Item(key) => values.is_at(key, reply),
         Operation::Set(_) | Operation::Append(_) | Operation::Add(_) | Operation::Discard(_) => {
             matches!(reply, Reply::Done)
         }

@@ -16,7 +16,8 @@ use std::alloc::Global;
 use std::sync::Wait;
 use std::time::Clock;
 
-/// How many operations are made between two looks at the clock, and between two quiescent points.
+/// How many operations are made between two looks at the clock, and between two quiescent points. At a quiescent point a
+/// thread also gets back the places of those of its boxes that others dropped.
 const BATCH: u32 = 1024;
 /// How many items are appended in a round.
 const APPENDS: u32 = 3072;
@@ -179,7 +180,7 @@ fn take_turns<R: Wait + Clock>(
     ensures { IsReadyCaller engine.now worker.new.caller }
 {
     match course.plan.workload {
-        Workload::Dict(_) | Workload::Set(_) => make_for(
+        Workload::Dict(_) | Workload::Boxes(_) | Workload::Set(_) => make_for(
             rt,
             engine,
             alloc,

@@ -40,9 +40,23 @@ fn all_tables(alloc: Global, workload: Workload) -> Result<Vec<u32>, AllocError>
 /// The containers of a run: the one that its threads call on, and for a list another one, to begin a round with.
 fn kinds_of(alloc: Global, workload: Workload) -> Result<Vec<Kind>, AllocError> {
     match workload {
-        Workload::Dict(_) | Workload::Growth(_) => Ok(vec![in alloc; Kind::Dict]?),
+        Workload::Dict(_) | Workload::Boxes(_) | Workload::Growth(_) => {
+            Ok(vec![in alloc; Kind::Dict]?)
+        }
         Workload::List(_) => Ok(vec![in alloc; Kind::List, Kind::List]?),
         Workload::Set(_) | Workload::Script => Ok(vec![in alloc; Kind::Set]?),
+    }
+}
+
+/// How many places for boxes the heap of a thread has.
+///
+/// A thread whose dict has boxes can't run out of 4,096: after its quiescent point each box of its heap is one that the
+/// dict names, at most 1,000, or that another thread has in hand in the midst of a call, at most two for each of these;
+/// and until the next one, after at most 1,024 operations, it makes at most as many. That is less than 2,200.
+fn places_of(workload: Workload) -> u32 {
+    match workload {
+        Workload::Boxes(_) => 4096,
+        _ => 64,
     }
 }
 
@@ -56,7 +70,7 @@ pub(crate) fn shape_of(
         kinds: kinds_of(alloc, workload)?,
         texts: Vec::new(alloc),
         tables: all_tables(alloc, workload)?,
-        heap: 64,
+        heap: places_of(workload),
         passes: threads,
         calls: u32::MAX,
     })

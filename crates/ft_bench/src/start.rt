@@ -25,7 +25,13 @@ fn hire_one(
     let operations = operations(alloc, plan.workload, thread)?;
     Ok(Worker {
         caller,
-        tally: Tally::new(thread, plan.site, operations, Vec::new(alloc)),
+        tally: Tally::new(
+            thread,
+            plan.site,
+            plan.workload.values(),
+            operations,
+            Vec::new(alloc),
+        ),
     })
 }
 

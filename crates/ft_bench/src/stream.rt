@@ -20,8 +20,8 @@ fn operation_of(workload: Workload, number: u64) -> Operation {
     let key = (high / 8 % 1000) as u32;
     let part = (high / 8000 % 100) as u32;
     match workload {
-        Workload::Dict(sets) if part < sets => Operation::Set(key),
-        Workload::Dict(_) => Operation::Get(key),
+        Workload::Dict(sets) | Workload::Boxes(sets) if part < sets => Operation::Set(key),
+        Workload::Dict(_) | Workload::Boxes(_) => Operation::Get(key),
         Workload::Growth(_) => Operation::Get(key % 8),
         Workload::List(appends) if part < appends => Operation::Append(key),
         Workload::List(_) => Operation::Item(key),

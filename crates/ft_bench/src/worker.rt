@@ -2,8 +2,9 @@
 
 use crate::operation::{Operation, call_of, is_right};
 use crate::plan::Site;
+use crate::values::Values;
 use ft_engine::Caller;
-use ft_model::{Call, Reply};
+use ft_model::{Call, Reply, Value};
 
 /// A thread of a run.
 #[derive(Drop)]
@@ -19,6 +20,8 @@ pub struct Tally {
     pub(crate) thread: u32,
     /// Where it makes its calls.
     pub(crate) site: Site,
+    /// The values that it stores.
+    pub(crate) values: Values,
     /// Its operations, which it walks round.
     pub(crate) operations: Vec<Operation>,
     /// Where its walk stands: how many of these it has come past in this round of them.
@@ -46,12 +49,14 @@ impl Tally {
     pub(crate) fn new(
         thread: u32,
         site: Site,
+        values: Values,
         operations: Vec<Operation>,
         stalls: Vec<u64>,
     ) -> Tally {
         Tally {
             thread,
             site,
+            values,
             operations,
             place: 0,
             serial: 0,
@@ -80,13 +85,19 @@ impl Tally {
     /// The call of an operation: a value that it stores is a new one.
     #[inline(always)]
     pub(crate) fn call_of(&self, operation: Operation) -> Call {
-        call_of(operation, self.serial)
+        call_of(operation, &self.values, self.serial)
+    }
+
+    /// The value that is stored at a key, or appended: a new one.
+    #[inline(always)]
+    pub(crate) fn value_at(&self, key: u32) -> Value {
+        self.values.at(key, self.serial)
     }
 
     /// Counts an operation by its reply.
     #[inline(always)]
     pub(crate) fn count_reply(&mut self, operation: Operation, reply: &Reply) {
-        if is_right(operation, reply) {
+        if is_right(operation, &self.values, reply) {
             self.made = self.made.saturating_add(1);
         } else {
             self.wrong = self.wrong.saturating_add(1);

@@ -1,12 +1,16 @@
 //! The workloads: what the threads of a run call.
 
 use crate::plan::Site;
+use crate::values::{BOXED, SMALL, Values};
 
 /// A workload. In each, a thread's stream of numbers says which operations it makes.
 #[derive(Clone, Copy, Debug, PartialEq, Eq)]
 pub enum Workload {
-    /// A dict of 1,000 keys, of which each hundred operations of a thread set that many, and get the others.
+    /// A dict of 1,000 keys and small integers, of which each hundred operations of a thread set that many, and get the
+    /// others.
     Dict(u32),
+    /// The same with values of 40 bits, which lie in boxes.
+    Boxes(u32),
     /// A dict that one thread fills from 8 pairs to that many, while the others get the eight.
     Growth(u32),
     /// A list of 1,000 items, to which that many of a hundred operations append, while the others get one of the first
@@ -20,11 +24,14 @@ pub enum Workload {
 }
 
 /// All workloads.
-pub(crate) fn workloads() -> [Workload; 10] {
+pub(crate) fn workloads() -> [Workload; 13] {
     [
         Workload::Dict(0),
         Workload::Dict(5),
         Workload::Dict(50),
+        Workload::Boxes(0),
+        Workload::Boxes(5),
+        Workload::Boxes(50),
         Workload::Growth(32_768),
         Workload::Growth(2_730),
         Workload::List(50),
@@ -42,6 +49,9 @@ impl Workload {
             Workload::Dict(0) => "A",
             Workload::Dict(5) => "B",
             Workload::Dict(_) => "C",
+            Workload::Boxes(0) => "Ab",
+            Workload::Boxes(5) => "Bb",
+            Workload::Boxes(_) => "Cb",
             Workload::Growth(32_768) => "D",
             Workload::Growth(_) => "Ds",
             Workload::List(50) => "E",
@@ -55,10 +65,18 @@ impl Workload {
     /// Where its calls are made by the methods for them.
     pub(crate) fn site(self) -> Site {
         match self {
-            Workload::Dict(_) | Workload::Growth(_) => Site::Dict,
+            Workload::Dict(_) | Workload::Boxes(_) | Workload::Growth(_) => Site::Dict,
             Workload::List(_) => Site::List,
             Workload::Set(_) => Site::Set,
             Workload::Script => Site::Shared,
+        }
+    }
+
+    /// The values that its threads store.
+    pub(crate) fn values(self) -> Values {
+        match self {
+            Workload::Boxes(_) => BOXED,
+            _ => SMALL,
         }
     }
 
@@ -67,7 +85,9 @@ impl Workload {
         match self {
             Workload::Script => "1",
             Workload::Growth(_) => "2,4",
-            Workload::Dict(_) | Workload::List(_) | Workload::Set(_) => "1,2,4",
+            Workload::Dict(_) | Workload::Boxes(_) | Workload::List(_) | Workload::Set(_) => {
+                "1,2,4"
+            }
         }
     }
 }

@@ -3,6 +3,7 @@ use Rattle.std.proofs.Common.{◌≡◌, ◌≢◌, ℕ, suc, ◌+◌, ◌-◌, 
 use mathlib.Core.Logic.{dite}
 use native.Mathlib.Decide.{ℕ_discrete}
 use Rattle.std.proofs.Math.Bridge.{le_prop}
+use Rattle.std.proofs.Math.Decide.{dec_lt}
 use Rattle.std.proofs.Math.Logic.{∥∥₁_elim, ∥∥₁_map}
 use Rattle.ft_layout.specs.declared.slot.Ref.{Ref}
 use Rattle.ft_layout.specs.declared.slot.Stored.TheVariants.{Plain}
@@ -13,7 +14,7 @@ use Rattle.ft_trace.specs.declared.Act.{Act}
 use Rattle.ft_trace.specs.declared.Act.TheVariants.{ReadFreePlaces, TakePlace, ReadBox, RaiseShared}
 use Rattle.ft_trace.specs.declared.Shape.{Shape}
 use Rattle.ft_trace.specs.declared.View.{View}
-use Rattle.ft_trace.specs.Bits.{bit}
+use Rattle.ft_trace.specs.Bits.{bit, full}
 use Rattle.ft_trace.specs.Acts.{view_after}
 use Rattle.ft_trace.specs.Addresses.{maker_of, place_in, place_bit_of, place_word_of, IsBoxName}
 use Rattle.ft_trace.specs.Boxes.{made_state, local_count, taken_out, place_to_give, place_use, references_held, times_kept, known_box_word, knows_box_word}
@@ -21,6 +22,7 @@ use Rattle.ft_trace.specs.BoxTraces.{box_state, has_in_default, making_box, refe
 use Rattle.ft_trace.specs.BoxWords.{IsBoxedValue}
 use Rattle.ft_trace.specs.Traces.{run, IsReachable}
 use Rattle.ft_trace.proofs.Announcing.{fits}
+use Rattle.ft_trace.proofs.Bits.{bit_full}
 use Rattle.ft_trace.proofs.Boxed.{boxed}
 use Rattle.ft_trace.proofs.BoxKnown.{box_known, sure_after, sure_stays}
 use Rattle.ft_trace.proofs.BoxedValues.{boxes_have_values}
@@ -38,6 +40,7 @@ use Rattle.ft_bank.proofs.KnownAfterWrites.{boxed_then, loaded_boxed}
 use Rattle.ft_bank.proofs.OwnBoxes.{owned}
 use Rattle.ft_boxes.specs.declared.held.Raised.{Raised}
 use Rattle.ft_boxes.specs.declared.held.Raised.TheVariants as raised
+use Rattle.ft_boxes.specs.Internal.Merges.{LeavesNoIdleBoxIn}
 use Rattle.ft_boxes.specs.Internal.Places.{FoundWordFull, HasTakenPlace}
 use Rattle.ft_boxes.specs.Making.{FoundFull}
 use Rattle.ft_boxes.specs.Merging.{FoundCounts, MergesIdleBoxes}
@@ -338,21 +341,51 @@ merges_then u v w first only old next b =
     (λ merged. inr (merged.0, counts_before b 0 u v w first merged.1))
     (next b)
 
--- what is left of the boxes at the first places
-pub left_next : (u v w : View) (b : Ref) (m place : ℕ) → box_id b ≡ m * 65536 + place → OnlyBoxed u v → OnlyBoxed v w → LeavesOthers b v w
+-- what is left of the boxes between two places
+pub left_next : (u v w : View) (b : Ref) (first place : ℕ) → place_in (box_id b) ≡ place → maker_of (box_id b) + 1 ≡ w.number → ∥ IsReachable w ∥₁ → OnlyBoxed u v → OnlyBoxed v w → LeavesOthers b v w
     → (made_state (box_id b) w.log ≡ 2 → (total : ℕ) × (total ≢ 0) × FoundCounts (box_id b) total v w)
-    → ((p : ℕ) → p < place → made_state (m * 65536 + p) v.log ≡ 2 → (total : ℕ) × (total ≢ 0) × FoundCounts (m * 65536 + p) total u v)
-    → (p : ℕ) → p < place + 1 → made_state (m * 65536 + p) w.log ≡ 2 → (total : ℕ) × (total ≢ 0) × FoundCounts (m * 65536 + p) total u w
-left_next u v w b m place name first only leaves this old p less own =
-    dite (ℕ_discrete p place)
-    (λ (e : p ≡ place).
-    let is : box_id b ≡ m * 65536 + p = name ∙ omega (arith, e) in
-    let found = this (ap (λ (n : ℕ). made_state n w.log) is ∙ own) in
-    (found.0, found.1, subst (λ (n : ℕ). FoundCounts n found.0 u w) is (counts_before (box_id b) found.0 u v w first found.2)))
+    → LeavesNoIdleBoxIn first place u v
+    → LeavesNoIdleBoxIn first (place + 1) u w
+unfolding maker_of place_in
+left_next u v w b first place at mine possible only then leaves this old c low less own =
+    dite (ℕ_discrete c (box_id b))
+    (λ (e : c ≡ box_id b).
+    let found = this (ap (λ (n : ℕ). made_state n w.log) (sym e) ∙ own) in
+    (found.0, found.1, subst (λ (n : ℕ). FoundCounts n found.0 u w) (sym e) (counts_before (box_id b) found.0 u v w only found.2)))
     (λ ne.
-    let other : m * 65536 + p ≢ box_id b = λ z. ne (omega (arith, z, name)) in
-    let found = old p (omega (arith, less, ne)) (sym (leaves.state (m * 65536 + p) other) ∙ own) in
-    (found.0, found.1, counts_then (m * 65536 + p) found.0 u v w found.2 only))
+    let name = own_name w possible c own in
+    let maker = name.0 in
+    let other : place_in c ≢ place = λ z. ne (omega (arith, z, at, mine, maker)) in
+    let found = old c low (omega (arith, less, other)) (sym (leaves.state c ne) ∙ own) in
+    (found.0, found.1, counts_then c found.0 u v w found.2 then))
+
+-- and of one run of places after another
+pub left_on : (u v w : View) (first place past : ℕ) → OnlyBoxed u v → OnlyBoxed v w → MergesIdleBoxes v w → LeavesNoIdleBoxIn first place u v → LeavesNoIdleBoxIn place past v w → LeavesNoIdleBoxIn first past u w
+left_on u v w first place past only then merges old next c low less own =
+    dite (dec_lt (place_in c) place)
+    (λ (early : place_in c < place).
+    let was : made_state c v.log ≡ 2 =
+    ⊎_elim
+    (λ (same : (made_state c w.log ≡ made_state c v.log) × (local_count c w.log ≡ local_count c v.log)). sym same.0 ∙ own)
+    (λ (merged : (made_state c w.log ≡ 3) × FoundCounts c 0 v w). let m = merged.0 in omega (arith, m, own))
+    (merges c) in
+    let found = old c low early was in
+    (found.0, found.1, counts_then c found.0 u v w found.2 then))
+    (λ late.
+    let found = next c (omega (arith, late)) less own in
+    (found.0, found.1, counts_before c found.0 u v w only found.2))
+
+-- none of the places of a word of bits whose places are all free has a box of the pass
+pub none_in_free : (u v x : View) (m word : ℕ) → ∥ IsReachable x ∥₁ → IsHeap v.shape.heap → m < v.shape.passes → v.number ≡ m + 1 → x ≡ view_after (ReadFreePlaces m word (full 64)) v → LeavesNoIdleBoxIn (64 * word) (64 * word + 64) u x
+none_in_free u v x m word possible heap low number loads c first past own =
+    let name = own_name x possible c own in
+    let number_x : x.number ≡ m + 1 = ap (λ (z : View). z.number) loads ∙ number in
+    let b : Ref = record { pass = m; place = place_in c } in
+    let is : c ≡ box_id b = name_sum c m x.number name.0 number_x in
+    let shape : x.shape ≡ v.shape = ap (λ (z : View). z.shape) loads in
+    let in_heap = subst (λ (z : Shape). place_in c < z.heap) shape name.1 in
+    let there = apart v x x b (full 64) (full 64) word possible heap (low, in_heap) number (omega (arith, first, past)) loads (bit_full 64 (place_in c % 64) (omega arith)) in
+    absurd (there.1 (ap (λ (n : ℕ). made_state n x.log) (sym is) ∙ own))
 
 pub merged_next : (v w : View) (b : Ref) (m place : ℕ) → box_id b ≡ m * 65536 + place → LeavesOthers b v w → made_state (box_id b) w.log ≢ 2
     → ((p : ℕ) → p < place → made_state (m * 65536 + p) v.log ≢ 2)

@@ -21,7 +21,7 @@ use ft_layout::{Ref, Stored, item_words};
 use ft_model::Value;
 
 /// How many places a word of bits has.
-const BITS: u32 = 64;
+pub(crate) const BITS: u32 = 64;
 /// Which words of a box the kind, the payload and the local count are.
 const KIND: u64 = 1;
 

@@ -1,15 +1,16 @@
 //! Boxes are merged: what their maker has counted alone goes to the shared count (PEP 703, "Biased Reference Counting").
-ghost use Rattle.std.specs.Prelude.{◌≡◌, ◌≢◌, ◌⊎◌, ℕ, ◌+◌, IsTrue, false};
+ghost use Rattle.std.specs.Prelude.{◌≡◌, ◌≢◌, ◌⊎◌, ℕ, ◌+◌, ◌*◌, ◌/◌, ◌<◌, IsTrue, false};
 ghost use Rattle.ft_trace.specs.Boxes.{made_state, state_merged, IsSettled};
 ghost use Rattle.ft_bank.specs.BoxSteps.{box_id, IsBoxIn, IsOwn, IsShared};
 ghost use Rattle.ft_bank.specs.Passes.{shape_of, view, IsPassOf};
 ghost use Rattle.ft_bank.specs.PassSections.{stack_of};
 ghost use Rattle.ft_bank.specs.SameBoxes.{SameReferences, TakesNoPlace};
 ghost use Rattle.ft_bank.specs.Whole.{OnlyBoxed, OnlyLoaded};
-ghost use Rattle.ft_boxes.specs.Internal.Merges.{HasTakenOut, IsSettledBut};
+ghost use Rattle.ft_boxes.specs.Internal.Merges.{HasTakenOut, IsSettledBut, LeavesNoIdleBoxIn};
 ghost use Rattle.ft_boxes.specs.Merging.{FoundCounts, LeavesNoIdleBox, MergesAll, MergesIdleBoxes};
 ghost use Rattle.ft_boxes.specs.References.{KeepsValues, LeavesOthers};
 
+use crate::making::BITS;
 use ft_bank::{Bank, Pass};
 use ft_layout::Ref;
 
@@ -124,9 +125,35 @@ fn merge_if_idle(bank: &Bank, pass: &mut Pass, b: Ref)
     }
 }
 
+/// Merges each idle box among those of the pass's own heap whose bits are in this word. Where all places of the word are
+/// free, none of them has a box.
+fn merge_idle_in(bank: &Bank, pass: &mut Pass, word: u32)
+    requires pass { IsPassOf bank.now pass.old }
+    requires settled { IsSettled (view pass.old).log }
+    requires word { word < (shape_of bank.now).heap / 64 }
+    ensures pass { IsPassOf bank.now pass.new }
+    ensures sections { stack_of pass.new ≡ stack_of pass.old }
+    ensures settled { IsSettled (view pass.new).log }
+    ensures only { OnlyBoxed (view pass.old) (view pass.new) }
+    ensures same { SameReferences (view pass.old) (view pass.new) }
+    ensures left { LeavesNoIdleBoxIn (64 * word) (64 * word + 64) (view pass.old) (view pass.new) }
+    ensures merges { MergesIdleBoxes (view pass.old) (view pass.new) }
+    ensures places { TakesNoPlace (view pass.old) (view pass.new) }
+    ensures values { KeepsValues (view pass.old) (view pass.new) }
+{
+    let maker = pass.number();
+    if bank.read_free_places(pass, maker, word) == u64::MAX {
+        return;
+    }
+    let first = BITS * word;
+    for place in first..first + BITS {
+        merge_if_idle(bank, pass, Ref { pass: maker, place });
+    }
+}
+
 /// Merges each box of the pass that is in the default state and whose counts add up to 0 when it loads them, so that its
-/// place is given back: what a pass does from time to time. It loads a word for each place of the heap, and a second one
-/// for each box in the default state.
+/// place is given back: what a pass does from time to time. It loads each word of bits of the heap; where one has a place
+/// that isn't free, a word for each of its places, and a second one for each box in the default state.
 pub fn merge_idle(bank: &Bank, pass: &mut Pass)
     requires pass { IsPassOf bank.now pass.old }
     requires settled { IsSettled (view pass.old).log }
@@ -140,9 +167,8 @@ pub fn merge_idle(bank: &Bank, pass: &mut Pass)
     ensures places { TakesNoPlace (view pass.old) (view pass.new) }
     ensures values { KeepsValues (view pass.old) (view pass.new) }
 {
-    let maker = pass.number();
-    for place in 0..bank.heap() {
-        merge_if_idle(bank, pass, Ref { pass: maker, place });
+    for word in 0..bank.heap() / BITS {
+        merge_idle_in(bank, pass, word);
     }
 }
 

@@ -37,6 +37,7 @@ fn sessions(alloc: Global, sizes: &FtSizes, tables: &[u32]) -> Result<Vec<Sessio
         calls: sizes.calls,
         cursors: sizes.cursors,
         texts: sizes.texts,
+        heap: sizes.heap,
         tables: tables.to_vec(alloc)?,
     };
     let cursors = sizes.cursors;

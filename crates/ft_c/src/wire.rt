@@ -49,4 +49,5 @@ pub struct FtSizes {
     pub calls: u32,
     pub cursors: u32,
     pub texts: u32,
+    pub heap: u32,
 }

@@ -119,7 +119,7 @@ module _ (d : ℕ) (v : View) (pairs : DictContent) (low : d < container_count v
 -- ---- calls that put a value at a key that is there
 
 module _ (d : ℕ) (v : View) (pairs : DictContent) (low : d < container_count v.shape) (mine : has_lock d v.log ≡ true) (is_dict : (known_state d v).content ≡ content.Dict pairs) (key : Key) (fits : FitsKey key) where
-  set_same : (value : Value) → has_key pairs.pairs key ≡ true → ((dict_set pairs key value).next ≡ pairs.next) × (length (dict_set pairs key value).pairs ≡ length pairs.pairs)
+  pub set_same : (value : Value) → has_key pairs.pairs key ≡ true → ((dict_set pairs key value).next ≡ pairs.next) × (length (dict_set pairs key value).pairs ≡ length pairs.pairs)
   set_same value there =
       let other : DictContent = record { next = pairs.next + 1; pairs = pairs.pairs ++ record { serial = pairs.next; key = key; value = value } ∷ [] } in
       let same : DictContent = record { next = pairs.next; pairs = with_value pairs.pairs key value } in (

@@ -1,9 +1,8 @@
 -- A value that stands in a box is put at a key of a dict: what the pass has of the box, and what the call comes to.
-use Rattle.std.proofs.Common.{◌≡◌, ◌≢◌, ℕ, ◌+◌, ◌<◌, Bool, eqb, cond, true, false, true≢false, List, [], ◌∷◌, Option, Some, None, inl, inr, refl, sym, ap, ◌∙◌, subst, arith}
+use Rattle.std.proofs.Common.{◌≡◌, ℕ, ◌+◌, ◌<◌, Bool, true, false, Option, Some, None, inl, inr, refl, sym, ap, ◌∙◌, subst, arith}
 use Rattle.std.specs.Prelude.{nat_lt, if◌then◌else◌}
 use Rattle.std.specs.Option.{unwrap_or}
 use Rattle.ft_model.specs.declared.call.Call.{Call}
-use Rattle.ft_model.specs.declared.content.Content.{Content}
 use Rattle.ft_model.specs.declared.data.Key.{Key}
 use Rattle.ft_model.specs.declared.data.Value.{Value}
 use Rattle.ft_model.specs.declared.reply.Reply.{Reply}
@@ -14,12 +13,12 @@ use Rattle.ft_layout.specs.declared.slot.Stored.TheVariants.{Plain}
 use Rattle.ft_layout.specs.Words.{IsStored}
 use Rattle.ft_trace.specs.declared.Shape.{Shape}
 use Rattle.ft_trace.specs.declared.View.{View}
-use Rattle.ft_trace.specs.Acts.{flight, has_lock, is_writing, used}
+use Rattle.ft_trace.specs.Acts.{flight, is_writing, used}
 use Rattle.ft_trace.specs.Addresses.{container_count}
 use Rattle.ft_trace.specs.Boxes.{place_use, references_held, use_taken, IsDoneWithBoxes, IsSettled}
-use Rattle.ft_trace.specs.ContainerStates.{ContainerState, changes, kinds_in}
-use Rattle.ft_trace.specs.Holds.{held_words, held_unboxed, known_state}
-use Rattle.ft_trace.specs.Pictures.{ContainerWords, root_in, Represents}
+use Rattle.ft_trace.specs.ContainerStates.{ContainerState, kinds_in}
+use Rattle.ft_trace.specs.Holds.{held_unboxed, known_state}
+use Rattle.ft_trace.specs.Pictures.{ContainerWords, Represents}
 use Rattle.ft_trace.specs.Traces.{IsReachable}
 use Rattle.ft_trace.proofs.Cases.{here}
 use Rattle.ft_bank.specs.declared.table.Table.{Table}
@@ -31,7 +30,7 @@ use Rattle.ft_bank.proofs.DoneBoxes.{stays_settled_same}
 use Rattle.ft_bank.proofs.KnownAfterWrites.{boxed_then, loaded_boxed, work_knows}
 use Rattle.ft_boxes.specs.References.{HoldsBox, HoldsOneLess, KnowsValue, LeavesNoTaken}
 use Rattle.ft_search.specs.Held.{IsHeldAt}
-use Rattle.ft_search.specs.HeldValues.{HoldsValue, NamesBoxAt}
+use Rattle.ft_search.specs.HeldValues.{HoldsValue}
 use Rattle.ft_search.specs.OneEntryWrites.{KnowsEntries, Leaves, MayBeginEntries, MayWriteEntries}
 use Rattle.ft_search.proofs.Calling.{loaded_same}
 use Rattle.ft_search.proofs.Owning.{held_is_box}
@@ -39,10 +38,9 @@ use Rattle.ft_search.proofs.Puts.{few_same}
 use Rattle.ft_section.specs.declared.answers.Stamp.{Stamp}
 use Rattle.ft_table_calls.specs.declared.adding.Added.{Added}
 use Rattle.ft_table_calls.specs.declared.adding.Added.TheVariants as added
-use Rattle.ft_table_calls.specs.Adding.{KeepsCursors}
-use Rattle.ft_new_keys.specs.HeldKeys.{AddsHeld, HoldsFor, IsPut, MayPutKey, PutInPlace, needed_for}
+use Rattle.ft_table_calls.proofs.Cursors.{added_cursors}
+use Rattle.ft_new_keys.specs.HeldKeys.{AddsHeldKey, HoldsFor, IsPut, MayPutKey}
 use Rattle.ft_new_keys.specs.KeyGrowth.{KnowsKeyed, holds, key_takes, most_of}
-use Rattle.ft_new_keys.proofs.HeldCalls.{put_cursors}
 use Rattle.ft_new_keys.proofs.Present.{holds_not}
 use Rattle.ft_dict.specs.HeldSets.{PutsHeld, WroteThere}
 
@@ -188,18 +186,18 @@ module _ (k : Shape) (o : ℕ) (key : Key) (called : Call) (said : Reply) (v u w
         put = subst (λ (z : Option ℕ × Bool). IsPut k o key m.box z.0 z.1 called said m.before w (added.Made stamp)) (λ i. (takes i, over i)) made;
         dropped = loaded_boxed w w (loaded_same w);
         cursors = λ number. m.put.wrote.pass.cursors number ∙ boxed.work.pass.cursors number;
-        boxes = m.put.there.boxes;
+        boxes = m.put.references.boxes;
       }
 
   -- it isn't
-  pub puts_new : (b : Ref) (what : Added) → IsHeldAt (known_state o u).content key None → AddsHeld k o key b called said u w what → PutsHeld k o key called said v w what
+  pub puts_new : (b : Ref) (what : Added) → IsHeldAt (known_state o u).content key None → AddsHeldKey k o key b called said u w what → PutsHeld k o key called said v w what
   puts_new b what none a =
       let not = holds_not (known_state o u).content key none in
       let takes : key_takes (known_state o u).content (known_state o u).table ≡ puts_takes (known_state o v) key = sym (ap (λ (b : Bool). if b then None else key_takes (known_state o u).content (known_state o u).table) not) ∙ ap (λ (z : ContainerState). puts_takes z key) same in
       let over : nat_lt (most_of (known_state o u).content) (length_of (known_state o u).content + 1) ≡ puts_over (known_state o v) key = sym (ap (λ (b : Bool). if b then false else nat_lt (most_of (known_state o u).content) (length_of (known_state o u).content + 1)) not) ∙ ap (λ (z : ContainerState). puts_over z key) same in
       let x = a.put.0 in
       let boxed = boxed_then v u x (loaded_boxed v u only) (loaded_boxed u x a.put.1) in
-      let put = put_cursors k o key (Some b) _ _ called said x a.after what a.put.2 in
+      let put = added_cursors _ k _ _ called said x a.after what a.put.2 in
       record {
         before = x;
         boxed = boxed;

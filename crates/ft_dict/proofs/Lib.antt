@@ -5,6 +5,7 @@ mod Leaving
 mod Deleted
 mod NewKeys
 mod HeldSets
+mod BoxedPuts
 mod Popping
 -- two dicts
 mod CopiedDicts

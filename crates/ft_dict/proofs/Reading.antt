@@ -63,7 +63,7 @@ one_value : (kind payload : ℕ) (a b : Value) → IsStored kind payload (Plain 
 one_value kind payload a b f g = let same = stored_is_one kind payload (Plain a) (Plain b) f g in cc
 
 -- the pairs of a dict that a pass knows fit their words
-fit_known : (v : View) (d : ℕ) (pairs : DictContent) → IsReachable v → d < container_count v.shape → has_lock d v.log ≡ true → (known_state d v).content ≡ content.Dict pairs → FitsContent (content.Dict pairs)
+pub fit_known : (v : View) (d : ℕ) (pairs : DictContent) → IsReachable v → d < container_count v.shape → has_lock d v.log ≡ true → (known_state d v).content ≡ content.Dict pairs → FitsContent (content.Dict pairs)
 fit_known v d pairs p low mine is =
     let world = (stored_newest v.shape.starts (history p.0)).world in
     let many : d < length world = subst (λ (z : ℕ). d < z) (sym (as_many v.shape.starts (history p.0))) low in

@@ -16,12 +16,11 @@ use Rattle.ft_trace.specs.ContainerStates.{kind_in}
 use Rattle.ft_bank.specs.KeyHashes.{IsKeyIn}
 use Rattle.ft_table_calls.specs.declared.made.Made.{Made}
 use Rattle.ft_table_calls.specs.TriesUnderLocks.{ComesTo, IsMade, IsRead}
-use Rattle.ft_new_keys.specs.KeyGrowth.{PutsKey}
 use Rattle.ft_merging.specs.Joining.{JoinsBy}
 use Rattle.ft_reads.specs.Clears.{IsClear}
 use Rattle.ft_reads.specs.Copies.{IsCopy}
+use Rattle.ft_dict.specs.BoxedCalls.{ComesToDefault, SetsValue}
 use Rattle.ft_dict.specs.DictCopies.{CopiesTo}
-use Rattle.ft_dict.specs.Values.{ComesToDefault}
 
 -- a dict of the bank
 abbrev pub IsDictIn : Shape → ℕ → Type 0
@@ -77,7 +76,7 @@ DictCallMakes k o (dict.GetOr key default) made v w = IsRead (call.Dict o (dict.
 DictCallMakes k o (dict.Has key) made v w = IsRead (call.Dict o (dict.Has key)) made v w
 DictCallMakes k o dict.Len made v w = IsRead (call.Dict o dict.Len) made v w
 DictCallMakes k o (dict.Set key value) made v w =
-    ComesTo (PutsKey k o key (call.Dict o (dict.Set key value)) reply.Done) reply.Done made v w
+    ComesTo (SetsValue k o key value) reply.Done made v w
 DictCallMakes k o (dict.SetDefault key default) made v w = ComesToDefault k o key default made v w
 DictCallMakes k o (dict.Update other) made v w =
     ComesTo (JoinsBy k o other (call.Dict o (dict.Update other))) reply.Done made v w

@@ -4,6 +4,7 @@ pub mod Locked
 -- values that are put, and the last pair
 pub mod Values
 pub mod HeldSets
+pub mod BoxedCalls
 pub mod Lasts
 -- copies to another dict
 pub mod DictCopies

@@ -14,8 +14,6 @@ use Rattle.ft_trace.specs.declared.Shape.{Shape}
 use Rattle.ft_trace.specs.declared.View.{View}
 use Rattle.ft_trace.specs.Holds.{known_state}
 use Rattle.ft_table_calls.specs.declared.adding.Added.{Added}
-use Rattle.ft_table_calls.specs.declared.made.Made.{Made}
-use Rattle.ft_table_calls.specs.TriesUnderLocks.{ComesTo}
 use Rattle.ft_new_keys.specs.KeyGrowth.{PutsKey}
 
 -- what `d.setdefault(k, v)` replies: the value at the key where it is there, else the default, which is stored then
@@ -28,7 +26,3 @@ abbrev pub SetsDefault : Shape → ℕ → Key → Value → Reply → View → 
 SetsDefault k d key default said v w what =
     (said ≡ default_reply (known_state d v).content key default)
     × PutsKey k d key (call.Dict d (dict.SetDefault key default)) said v w what
-
--- It came to that with some reply, which it gives where it is made; the cursors stay.
-abbrev pub ComesToDefault : Shape → ℕ → Key → Value → Made → View → View → Type 0
-ComesToDefault k d key default made v w = (said : Reply) × ComesTo (SetsDefault k d key default said) said made v w

@@ -144,6 +144,20 @@ pub(crate) fn value_fits(value: Value)
     }
 }
 
+/// A key's integer has 64 bits, and its string's number 32, so that words can represent it.
+pub(crate) fn key_fits(key: Key)
+    ensures { FitsKey key }
+{
+    match key {
+        Key::Int(integer) => {
+            let _word = integer;
+        }
+        Key::Text(sym) => {
+            let _number = sym.0;
+        }
+    }
+}
+
 /// `d.pop(k, v)`: the value at the key, which is taken out, or the default if it is not there (Python manual,
 /// Mapping Types); under the lock.
 pub fn popd_locked(

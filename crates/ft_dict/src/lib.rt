@@ -6,6 +6,7 @@
 //! entry to the pass at most, and that this entry has the reply of the plain dict at its stamp.
 #![tactic(auto)]
 
+mod boxed;
 mod clears;
 mod copies;
 mod deletes;
@@ -21,6 +22,7 @@ mod merges;
 mod tries;
 mod values;
 
+pub use crate::boxed::{set_boxed, setdefault_boxed};
 pub use crate::clears::clear_by;
 pub use crate::copies::copyto_by;
 pub use crate::deletes::{del_locked, pop_locked, popd_locked};

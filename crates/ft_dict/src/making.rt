@@ -11,6 +11,7 @@ ghost use Rattle.ft_section.specs.LockTakings.{HasLocks};
 ghost use Rattle.ft_section.specs.Ready.{IsMaking};
 ghost use Rattle.ft_dict.specs.DictMaking.{FitsDict, IsDictIn, DictCallMakes};
 
+use crate::boxed::{set_boxed, setdefault_boxed};
 use crate::clears::clear_by;
 use crate::copies::copyto_by;
 use crate::deletes::{del_locked, pop_locked, popd_locked};
@@ -90,7 +91,31 @@ fn set_value(bank: &Bank, pass: &mut Pass, d: Object, key: Key, value: Value) ->
     ensures stack { stack_of pass.new ≡ stack_of pass.old }
     ensures made { DictCallMakes (shape_of bank.now) d (dict.Set key value) result (view pass.old) (view pass.new) }
 {
+    if value.is_boxed() {
+        return Made::after(set_boxed(bank, pass, d, key, value), Reply::Done);
+    }
     Made::after(set_by(bank, pass, d, key, value), Reply::Done)
+}
+
+/// Puts a default at a key of the dict `d`, by a pass that has its lock.
+#[tactic(auto, using(crate::proofs::DictTries::may_enter))]
+#[inline(never)]
+fn set_default(bank: &Bank, pass: &mut Pass, d: Object, key: Key, default: Value) -> Made
+    requires making { IsMaking bank.now pass.old }
+    requires locks { HasLocks (view pass.old) (One d) }
+    requires dict { IsDictIn (shape_of bank.now) d }
+    requires key { IsKeyIn (shape_of bank.now) key }
+    requires left { 0 < (view pass.old).left }
+    ensures making { IsMaking bank.now pass.new }
+    ensures stack { stack_of pass.new ≡ stack_of pass.old }
+    ensures made { DictCallMakes (shape_of bank.now) d (dict.SetDefault key default) result (view pass.old) (view pass.new) }
+{
+    if default.is_boxed() {
+        let (added, said) = setdefault_boxed(bank, pass, d, key, default);
+        return Made::after(added, said);
+    }
+    let (added, said) = setdefault_by(bank, pass, d, key, default);
+    Made::after(added, said)
 }
 
 /// Makes a call on the dict `d`, by a pass that has the locks of its dicts.
@@ -119,10 +144,7 @@ fn make_dict(
         DictCall::Has { key } => Made::done(has_locked(bank, pass, Way::Dict, d, key)),
         DictCall::Len => Made::done(len_locked(bank, pass, d, called)),
         DictCall::Set { key, value } => set_value(bank, pass, d, key, value),
-        DictCall::SetDefault { key, default } => {
-            let (added, said) = setdefault_by(bank, pass, d, key, default);
-            Made::after(added, said)
-        }
+        DictCall::SetDefault { key, default } => set_default(bank, pass, d, key, default),
         DictCall::Update { other } => Made::after(update_by(bank, pass, d, other), Reply::Done),
         DictCall::CopyTo { other } => Made::after(copyto_by(bank, pass, d, other), Reply::Done),
         DictCall::Del { key } => Made::done(del_locked(bank, pass, d, key)),

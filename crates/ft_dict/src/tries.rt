@@ -13,12 +13,11 @@ ghost use Rattle.ft_section.specs.Ready.{MayTry};
 ghost use Rattle.ft_section.specs.Trying.{SectionsAfter};
 ghost use Rattle.ft_table_calls.specs.Adding.{KeepsCursors};
 ghost use Rattle.ft_table_calls.specs.TriesUnderLocks.{ComesTo, IsMade, IsRead, IsTry};
-ghost use Rattle.ft_new_keys.specs.KeyGrowth.{PutsKey};
 ghost use Rattle.ft_merging.specs.Joining.{JoinsBy};
 ghost use Rattle.ft_reads.specs.Clears.{IsClear};
 ghost use Rattle.ft_reads.specs.Copies.{IsCopy};
 ghost use Rattle.ft_dict.specs.DictCopies.{CopiesTo};
-ghost use Rattle.ft_dict.specs.Values.{ComesToDefault};
+ghost use Rattle.ft_dict.specs.BoxedCalls.{ComesToDefault, SetsValue};
 
 use crate::making::{DictMaker, ValueSetter};
 use ft_bank::{Bank, Pass};
@@ -158,7 +157,7 @@ pub fn try_set(bank: &Bank, pass: &mut Pass, d: Object, key: Key, value: Value) 
     requires left { 0 < (view pass.old).left }
     ensures may { MayTry bank.now pass.new (One d) }
     ensures tried { IsTry (One d)
-        (ComesTo (PutsKey (shape_of bank.now) d key (call.Dict d (dict.Set key value)) reply.Done) reply.Done)
+        (ComesTo (SetsValue (shape_of bank.now) d key value) reply.Done)
         (view pass.old) (view pass.new) result }
     ensures sections { SectionsAfter bank.now (One d) pass.old pass.new result }
     ensures cursors { KeepsCursors (view pass.old) (view pass.new) }

@@ -79,8 +79,8 @@ impl Attempt for Call {
     }
 }
 
-/// Puts rows that set that many keys from 0 on, each to itself, in dict 0 or in the other one. The first is the write of
-/// this number.
+/// Puts rows that set that many keys from 0 on, each to what it leaves modulo 256, in dict 0 or in the other one. The
+/// first is the write of this number.
 fn push_sets(
     rows: &mut Vec<(Call, Wanted)>,
     other: bool,
@@ -88,11 +88,11 @@ fn push_sets(
     number: u32,
 ) -> Result<(), AllocError> {
     for key in 0..count {
-        let integer = i64::from(key);
+        let (integer, value) = (i64::from(key), i64::from(key % 256));
         let call = if other {
-            Call::SetOther(integer, integer)
+            Call::SetOther(integer, value)
         } else {
-            Call::Set(integer, integer)
+            Call::Set(integer, value)
         };
         let stamp = u64::from(number) + u64::from(key);
         rows.push((call, Wanted::Writes(Said::Done, stamp)))?;

@@ -31,6 +31,7 @@ fn sessions(alloc: Global) -> Result<Vec<Session>, OpenFault>
         calls: u32::MAX,
         cursors: 0,
         texts: 0,
+        heap: 64,
         tables: Vec::from_elem(alloc, 2, 14)?,
     };
     let shape = sizes.into_shape(alloc)?;

@@ -1,5 +1,5 @@
 -- What calls on dicts and sets come to, and looks at them, in the words that all calls share.
-use Rattle.std.proofs.Common.{◌≡◌, ◌<◌, ℕ, true, false, List, refl, sym, subst}
+use Rattle.std.proofs.Common.{◌≡◌, ⊎_elim, ◌<◌, ℕ, true, false, List, refl, sym, subst}
 use Rattle.std.specs.Prelude.{Option, None, Some}
 use Rattle.ft_model.specs.declared.call.Call.{Call}
 use Rattle.ft_model.specs.declared.call.Call.TheVariants as call
@@ -17,6 +17,8 @@ use Rattle.ft_model.specs.Landed.{is_landed_dict}
 use Rattle.ft_trace.specs.declared.Act.{Act}
 use Rattle.ft_trace.specs.declared.Shape.{Shape}
 use Rattle.ft_trace.specs.declared.View.{View}
+use Rattle.ft_bank.specs.Whole.{OnlyBoxed}
+use Rattle.ft_bank.proofs.KnownAfterWrites.{boxed_then}
 use Rattle.ft_section.specs.declared.answers.Look.{Look}
 use Rattle.ft_section.specs.declared.answers.Look.TheVariants as look
 use Rattle.ft_section.specs.declared.answers.Step.{Step}
@@ -25,10 +27,12 @@ use Rattle.ft_table_calls.specs.declared.adding.Added.TheVariants as added
 use Rattle.ft_table_calls.specs.declared.made.Made.{Made}
 use Rattle.ft_table_calls.specs.TriesUnderLocks.{ComesTo, IsTry, made_after, objects_by}
 use Rattle.ft_search.specs.KeyLooks.{IsLookOf, Stops}
+use Rattle.ft_new_keys.specs.HeldKeys.{KeyInBox}
 use Rattle.ft_new_keys.specs.KeyGrowth.{PutsKey}
 use Rattle.ft_dict.specs.DictCopies.{CopiesTo}
 use Rattle.ft_dict.specs.DictMaking.{FitsDict, DictCallMakes, key_of_dict}
-use Rattle.ft_dict.specs.Values.{ComesToDefault}
+use Rattle.ft_dict.specs.BoxedCalls.{ComesToDefault, PutsBoxed, SetsValue}
+use Rattle.ft_dict.specs.HeldSets.{PutsHeld}
 use Rattle.ft_set.specs.SetMaking.{FitsSet, SetCallMakes, key_of_set}
 use Rattle.ft_merging.specs.Joining.{JoinsBy}
 use Rattle.ft_merging.specs.Parting.{PartsBy}
@@ -36,12 +40,13 @@ use Rattle.ft_replacing.specs.Replacing.{IsReplaced}
 use Rattle.ft_engine.specs.Answering.{IsLooked}
 use Rattle.ft_engine.specs.Asked.{AreOfKindIn, HasKeyIn}
 use Rattle.ft_engine.specs.Contentions.{StopsCall}
-use Rattle.ft_engine.proofs.Outcomes.{Comes, Outcome, clear_comes, cleared_comes, copy_comes, loaded_comes, made_comes, read_comes, try_outcome}
+use Rattle.ft_engine.proofs.Outcomes.{Comes, Outcome, boxed_answered_comes, clear_comes, cleared_comes, copy_comes, held_comes, loaded_comes, made_comes, read_comes, try_outcome}
 
 replaced_comes : (k : Shape) (takes : Option ℕ) (called : Call) (v w : View) (what : Added) → 0 < v.left → IsReplaced k takes called v w what → Comes called v w (made_after what reply.Done)
 replaced_comes k None called v w (added.Made stamp) left x = cleared_comes called stamp v w x
 replaced_comes k None called v w (added.NoTable class stamp) left x = absurd x
 replaced_comes k None called v w (added.Over stamp) left x = absurd x
+replaced_comes k None called v w (added.NoPlace stamp) left x = absurd x
 replaced_comes k None called v w (added.Moved a b) left x = absurd x
 replaced_comes k (Some class) called v w what left x = loaded_comes k (Some class) false called reply.Done v x.0 w what left x.1 x.2
 
@@ -57,8 +62,39 @@ module _ (k : Shape) (o : ℕ) (came : Made) (u z : View) (left : 0 < u.left) wh
   parts : (t : ℕ) (called : Call) → ComesTo (PartsBy k o t called) reply.Done came u z → Comes called u z came
   parts t called x = subst (Comes called u z) x.1 (loaded_comes k _ _ called reply.Done u x.2.0 z x.0 left x.2.1 x.2.2)
 
+  -- a value in a box
+  puts_held : (key : Key) (called : Call) (said : Reply) (mid : View) (what : Added) → OnlyBoxed u mid → PutsHeld k o key called said mid z what → Comes called u z (made_after what said)
+  puts_held key called said mid what before h = held_comes (λ x y. KeyInBox k o key h.box y) k _ _ called said u h.before h.after z what left (boxed_then u mid h.before before h.boxed) h.put h.dropped
+
+  puts_boxed : (key : Key) (value : Value) (called : Call) (said : Reply) (what : Added) → PutsBoxed k o key value called said u z what → Comes called u z (made_after what said)
+  puts_boxed key value called said (added.Made stamp) x = puts_held key called said x.1.0 (added.Made stamp) x.1.1 x.1.2
+  puts_boxed key value called said (added.NoTable class stamp) x = puts_held key called said x.1.0 (added.NoTable class stamp) x.1.1 x.1.2
+  puts_boxed key value called said (added.Over stamp) x = loaded_comes k None _ called said u x.0 z (added.Over stamp) left x.1 x.2
+  puts_boxed key value called said (added.NoPlace stamp) x = let f = x.1 in boxed_answered_comes called _ stamp u f.before z left f.unwritten f.boxed f.answered
+  puts_boxed key value called said (added.Moved a b) x = puts_held key called said x.1.0 (added.Moved a b) x.1.1 x.1.2
+
+  sets : (key : Key) (value : Value) → ComesTo (SetsValue k o key value) reply.Done came u z → Comes (call.Dict o (dict.Set key value)) u z came
+  sets key value x =
+      let called = call.Dict o (dict.Set key value) in
+      subst (Comes called u z) x.1
+      (⊎_elim
+      (λ y. loaded_comes k _ _ called reply.Done u y.1.0 z x.0 left y.1.1 y.1.2)
+      (λ y. puts_boxed key value called reply.Done x.0 y.1)
+      x.2)
+
   defaults : (key : Key) (default : Value) → ComesToDefault k o key default came u z → Comes (call.Dict o (dict.SetDefault key default)) u z came
-  defaults key default x = let y = x.1 in puts key (call.Dict o (dict.SetDefault key default)) x.0 (y.0, y.1, y.2.1, y.3)
+  defaults key default x =
+      let called = call.Dict o (dict.SetDefault key default) in
+      let y = x.1 in
+      subst (Comes called u z) y.1
+      (⊎_elim
+      (λ p. loaded_comes k _ _ called x.0 u p.1.1.0 z y.0 left p.1.1.1 p.1.1.2)
+      (λ p.
+      ⊎_elim
+      (λ q. loaded_comes k _ _ called x.0 u q.1.0 z y.0 left q.1.1 q.1.2)
+      (λ q. puts_boxed key default called x.0 y.0 q.1)
+      p.1.1)
+      y.2)
 
   copies_to : (e : ℕ) → ComesTo (CopiesTo k o e) reply.Done came u z → Comes (call.Dict o (dict.CopyTo e)) u z came
   copies_to e x = subst (Comes (call.Dict o (dict.CopyTo e)) u z) x.1 (replaced_comes k _ (call.Dict o (dict.CopyTo e)) u z x.0 left x.2)
@@ -68,7 +104,7 @@ module _ (k : Shape) (o : ℕ) (came : Made) (u z : View) (left : 0 < u.left) wh
   dict_comes (dict.GetOr key default) none landed x = read_comes (call.Dict o (dict.GetOr key default)) u z came left x
   dict_comes (dict.Has key) none landed x = read_comes (call.Dict o (dict.Has key)) u z came left x
   dict_comes dict.Len none landed x = read_comes (call.Dict o dict.Len) u z came left x
-  dict_comes (dict.Set key value) none landed x = puts key (call.Dict o (dict.Set key value)) reply.Done x
+  dict_comes (dict.Set key value) none landed x = sets key value x
   dict_comes (dict.SetDefault key default) none landed x = defaults key default x
   dict_comes (dict.Update e) none landed x = joins e (call.Dict o (dict.Update e)) x
   dict_comes (dict.CopyTo e) none landed x = copies_to e x

@@ -19,8 +19,10 @@ use Rattle.ft_trace.proofs.Owning.{owners_then}
 use Rattle.ft_bank.specs.declared.takings.Took.{Took}
 use Rattle.ft_bank.specs.declared.takings.Took.TheVariants as took
 use Rattle.ft_bank.specs.Answered.{Answered}
+use Rattle.ft_bank.specs.SameBoxes.{SameReferences}
 use Rattle.ft_bank.specs.Logs.{HasGrown, StaysOnline}
-use Rattle.ft_bank.specs.Whole.{OnlyLoaded, SamePass, Wrote}
+use Rattle.ft_bank.specs.Whole.{OnlyBoxed, OnlyLoaded, SamePass, Wrote}
+use Rattle.ft_bank.proofs.KnownAfterWrites.{loaded_boxed}
 use Rattle.ft_section.specs.declared.answers.Objects.{Objects}
 use Rattle.ft_section.specs.declared.answers.Stamp.{Stamp}
 use Rattle.ft_section.specs.declared.answers.Step.{Step}
@@ -28,11 +30,12 @@ use Rattle.ft_section.specs.declared.answers.Step.TheVariants as step
 use Rattle.ft_section.specs.Locking.{FoundOwner, OnlyLocked}
 use Rattle.ft_section.specs.LockTakings.{IsOf}
 use Rattle.ft_search.specs.MadeCalls.{MadeAs}
+use Rattle.ft_search.proofs.Calling.{loaded_same}
 use Rattle.ft_table_calls.specs.declared.adding.Added.{Added}
 use Rattle.ft_table_calls.specs.declared.adding.Added.TheVariants as added
 use Rattle.ft_table_calls.specs.declared.made.Made.{Made}
 use Rattle.ft_table_calls.specs.declared.made.Made.TheVariants as made
-use Rattle.ft_table_calls.specs.Adding.{GaveUp, IsAdded, Retires, TriedTaking, WroteWith}
+use Rattle.ft_table_calls.specs.Adding.{GaveUp, IsAdded, IsAddedWith, Retires, TriedTaking, WroteWith}
 use Rattle.ft_table_calls.specs.TriesUnderLocks.{IsMade, IsRead, IsTry, UnderLocks, made_after}
 use Rattle.ft_reads.specs.Clears.{IsClear, IsCleared}
 use Rattle.ft_reads.specs.Copies.{IsCopy}
@@ -161,14 +164,14 @@ before_adds called said stamp u v w before adds = nothing_entry called said stam
 write_adds : (called : Call) (said : Reply) (stamp : Stamp) (u v w z : View) → stamp.wrote ≡ true → MakesNoEntry u v → Wrote called said stamp.number v w → MakesNoEntry w z → MakesEntry called said stamp u z
 write_adds called said stamp u v w z is before x after = nothing_entry called said stamp u v w z before x.seen (wrote_entry called said stamp v w is x) after
 
-with_adds : (k : Shape) (takes : Option ℕ) (called : Call) (said : Reply) (stamp : Stamp) (v w : View) → stamp.wrote ≡ true → WroteWith k takes called said stamp.number v w → MakesEntry called said stamp v w
-with_adds k None called said stamp v w is x = wrote_entry called said stamp v w is x.wrote
-with_adds k (Some class) called said stamp v w is x =
+with_adds : (R : View → View → Type 0) (k : Shape) (takes : Option ℕ) (called : Call) (said : Reply) (stamp : Stamp) (v w : View) → stamp.wrote ≡ true → WroteWith R k takes called said stamp.number v w → MakesEntry called said stamp v w
+with_adds R k None called said stamp v w is x = wrote_entry called said stamp v w is x.wrote
+with_adds R k (Some class) called said stamp v w is x =
     write_adds called said stamp v x.taken x.done w is (tried_nothing k class (took.Taken x.table) v x.taken x.tried) x.wrote (retired_nothing _ x.done w x.retired)
 
-with_owners : (k : Shape) (takes : Option ℕ) (called : Call) (said : Reply) (n : ℕ) (v w : View) → WroteWith k takes called said n v w → SameOwners v w
-with_owners k None called said n v w x = wrote_owners called said n v w x.wrote
-with_owners k (Some class) called said n v w x =
+with_owners : (R : View → View → Type 0) (k : Shape) (takes : Option ℕ) (called : Call) (said : Reply) (n : ℕ) (v w : View) → WroteWith R k takes called said n v w → SameOwners v w
+with_owners R k None called said n v w x = wrote_owners called said n v w x.wrote
+with_owners R k (Some class) called said n v w x =
     owners_then v x.taken w (tried_owners k class (took.Taken x.table) v x.taken x.tried)
     (owners_then x.taken x.done w (wrote_owners called said n x.taken x.done x.wrote) (retired_owners _ x.done w x.retired))
 
@@ -194,25 +197,47 @@ copy_comes called v w (made.Done said stamp) copying left x = made_comes called 
 copy_comes called v w (made.Moved a b) copying left x = absurd x
 copy_comes called v w made.NoMemory copying left x = (loaded_nothing v w x.0, loaded_owners v w x.0, copying)
 
-added_comes : (k : Shape) (takes : Option ℕ) (over : Bool) (called : Call) (said : Reply) (v w : View) (what : Added) → 0 < v.left → IsAdded k takes over called said v w what → Comes called v w (made_after what said)
-added_comes k takes over called said v w (added.Made stamp) left x = (with_adds k takes called said stamp v w x.1 x.2, with_owners k takes called said stamp.number v w x.2)
-added_comes k takes over called said v w (added.NoTable class stamp) left x =
+added_comes : (R : View → View → Type 0) (k : Shape) (takes : Option ℕ) (over : Bool) (called : Call) (said : Reply) (v w : View) (what : Added) → 0 < v.left → IsAddedWith R k takes over called said v w what → Comes called v w (made_after what said)
+added_comes R k takes over called said v w (added.Made stamp) left x = (with_adds R k takes called said stamp v w x.1 x.2, with_owners R k takes called said stamp.number v w x.2)
+added_comes R k takes over called said v w (added.NoTable class stamp) left x =
     let n = tried_nothing k class took.AllTaken v x.3.0 x.3.1 in
     let adds = answered_adds called (reply.Raised (raise.Memory class)) stamp x.3.0 w x.1 (subst (λ (z : ℕ). 0 < z) (sym n.left) left) x.3.2 in
     (before_adds called (reply.Raised (raise.Memory class)) stamp v x.3.0 w n adds, owners_then v x.3.0 w (tried_owners k class took.AllTaken v x.3.0 x.3.1) (answered_owners called (reply.Raised (raise.Memory class)) stamp.number x.3.0 w x.3.2))
-added_comes k takes over called said v w (added.Over stamp) left x = (answered_adds called (reply.Raised raise.Over) stamp v w x.1 left x.2, answered_owners called (reply.Raised raise.Over) stamp.number v w x.2)
-added_comes k takes over called said v w (added.Moved a b) left x = (tried_nothing k x.1.0 (took.Moved a b) v w x.1.2, tried_owners k x.1.0 (took.Moved a b) v w x.1.2, moved_by k x.1.0 a b v w x.1.2)
+added_comes R k takes over called said v w (added.Over stamp) left x = (answered_adds called (reply.Raised raise.Over) stamp v w x.1 left x.2, answered_owners called (reply.Raised raise.Over) stamp.number v w x.2)
+added_comes R k takes over called said v w (added.NoPlace stamp) left x = absurd x
+added_comes R k takes over called said v w (added.Moved a b) left x = (tried_nothing k x.1.0 (took.Moved a b) v w x.1.2, tried_owners k x.1.0 (took.Moved a b) v w x.1.2, moved_by k x.1.0 a b v w x.1.2)
+
+-- ---- calls that may take a table, and store a value in a box
+
+pub boxed_nothing : (v w : View) → OnlyBoxed v w → MakesNoEntry v w
+boxed_nothing v w l = record { pass = stays_same v w l.work.pass; entries = l.work.entries; left = l.work.left; cursors = l.work.pass.cursors }
+
+-- between steps that make no entry
+pub around_comes : (called : Call) (came : Made) (v u w z : View) → MakesNoEntry v u → SameOwners v u → Comes called u w came → MakesNoEntry w z → SameOwners w z → Comes called v z came
+around_comes called (made.Done r s) v u w z n o comes m p = (nothing_entry called r s v u w z n comes.0.seen comes.0 m, owners_then v u z o (owners_then u w z comes.1 p))
+around_comes called (made.Moved a b) v u w z n o comes m p = (nothing_then v u z n (nothing_then u w z comes.0 m), owners_then v u z o (owners_then u w z comes.1 p), moved_then a b v u w z n comes.2 m)
+around_comes called made.NoMemory v u w z n o comes m p = (nothing_then v u z n (nothing_then u w z comes.0 m), owners_then v u z o (owners_then u w z comes.1 p), comes.2)
+
+-- after steps with boxes and before such
+pub held_comes : (R : View → View → Type 0) (k : Shape) (takes : Option ℕ) (over : Bool) (called : Call) (said : Reply) (v x y w : View) (what : Added) → 0 < v.left → OnlyBoxed v x → IsAddedWith R k takes over called said x y what → OnlyBoxed y w → Comes called v w (made_after what said)
+held_comes R k takes over called said v x y w what left before is after =
+    let n = boxed_nothing v x before in
+    around_comes called (made_after what said) v x y w n before.work.pass.owners (added_comes R k takes over called said x y what (subst (λ (z : ℕ). 0 < z) (sym n.left) left) is) (boxed_nothing y w after) after.work.pass.owners
 
 -- after loads
 pub loaded_comes : (k : Shape) (takes : Option ℕ) (over : Bool) (called : Call) (said : Reply) (v u w : View) (what : Added) → 0 < v.left → OnlyLoaded v u → IsAdded k takes over called said u w what → Comes called v w (made_after what said)
 loaded_comes k takes over called said v u w what left l x =
-    let n = loaded_nothing v u l in
-    after (made_after what said) n (added_comes k takes over called said u w what (subst (λ (z : ℕ). 0 < z) (sym n.left) left) x)
-  where
-    after : (came : Made) → MakesNoEntry v u → Comes called u w came → Comes called v w came
-    after (made.Done r s) n comes = (before_adds called r s v u w n comes.0, owners_then v u w (loaded_owners v u l) comes.1)
-    after (made.Moved a b) n comes = (nothing_then v u w n comes.0, owners_then v u w (loaded_owners v u l) comes.1, moved_then a b v u w w n comes.2 (same_nothing w))
-    after made.NoMemory n comes = (nothing_then v u w n comes.0, owners_then v u w (loaded_owners v u l) comes.1, comes.2)
+    held_comes SameReferences k takes over called said v u w w what left (loaded_boxed v u l) x (loaded_boxed w w (loaded_same w))
+
+-- an entry that isn't a write
+pub boxed_answered_comes : (called : Call) (said : Reply) (stamp : Stamp) (v u w : View) → 0 < v.left → stamp.wrote ≡ false → OnlyBoxed v u → Answered called said stamp.number u w → Comes called v w (made.Done said stamp)
+boxed_answered_comes called said stamp v u w left unwritten before a =
+    let n = boxed_nothing v u before in
+    around_comes called (made.Done said stamp) v u w w n before.work.pass.owners (answered_adds called said stamp u w unwritten (subst (λ (z : ℕ). 0 < z) (sym n.left) left) a, answered_owners called said stamp.number u w a) (same_nothing w) (record { had = refl; found = refl })
+
+pub boxed_wrote_comes : (called : Call) (said : Reply) (stamp : Stamp) (v u w : View) → stamp.wrote ≡ true → OnlyBoxed v u → Wrote called said stamp.number u w → Comes called v w (made.Done said stamp)
+boxed_wrote_comes called said stamp v u w wrote before x =
+    around_comes called (made.Done said stamp) v u w w (boxed_nothing v u before) before.work.pass.owners (wrote_entry called said stamp u w wrote x, wrote_owners called said stamp.number u w x) (same_nothing w) (record { had = refl; found = refl })
 
 -- a clear
 gave_up_adds : (called : Call) (said : Reply) (stamp : Stamp) (v u w : View) → stamp.wrote ≡ true → OnlyLoaded v u → GaveUp called said stamp.number u w → MakesEntry called said stamp v w

@@ -1,5 +1,5 @@
 -- What `begin`, `end` and `quiesce` come to, as their pass has it.
-use Rattle.std.proofs.Common.{◌≡◌, ◌≤◌, ◌<◌, ◌-◌, ℕ, zero, suc, Bool, true, false, true≢false, List, [], ◌∷◌, ◌++◌, map, reverse, length, drop, refl, sym, ap, ◌∙◌, subst, arith, inl, inr, le_trans, append_assoc}
+use Rattle.std.proofs.Common.{◌≡◌, ◌≢◌, ⊎_elim, ◌≤◌, ◌<◌, ◌-◌, ℕ, zero, suc, Bool, true, false, true≢false, List, [], ◌∷◌, ◌++◌, map, reverse, length, drop, refl, sym, ap, ◌∙◌, subst, arith, inl, inr, le_trans, append_assoc}
 use Rattle.std.specs.Prelude.{Option, Some, None, ◌⊎◌, option_map, slice_index_or, if◌then◌else◌}
 use Rattle.std.proofs.lemmas.Bool.{ne_eqb}
 use Rattle.std.proofs.lemmas.List.{map-append, reverse-append, same_from_push}
@@ -14,6 +14,7 @@ use Rattle.ft_trace.specs.declared.Act.TheVariants.{Announce, Answer, ReadCounte
 use Rattle.ft_trace.specs.declared.Entry.{Entry}
 use Rattle.ft_trace.specs.declared.View.{View}
 use Rattle.ft_trace.specs.Acts.{announces, has_lock, view_after, seen_writes, presence_after_entry, presence_after_announcing, presence_of}
+use Rattle.ft_trace.specs.Boxes.{HasMergedBoxes, local_count, made_state, state_default, state_merged}
 use Rattle.ft_trace.specs.Floors.{at_floor}
 use Rattle.ft_trace.specs.Hands.{cursor_in}
 use Rattle.ft_trace.specs.BegunSections.{begun}
@@ -27,6 +28,7 @@ use Rattle.ft_bank.specs.Passes.{view, IsPassOf}
 use Rattle.ft_bank.specs.PassSections.{Stack, stack_of}
 use Rattle.ft_bank.proofs.LastLoads.{last_older}
 use Rattle.ft_bank.proofs.Logs.{grown_by, newer_part}
+use Rattle.ft_boxes.specs.Merging.{FoundCounts, LeavesNoIdleBox, MergesIdleBoxes}
 use Rattle.ft_qsbr.specs.Collecting.{Collected, loads_of}
 use Rattle.ft_section.specs.declared.answers.Ended.{Ended}
 use Rattle.ft_section.specs.declared.answers.Ended.TheVariants as ended
@@ -331,20 +333,27 @@ quiesced_online v w n freed x on here =
     ∙ (presence_stays acts u (collection_leaves x.acts x.numbers x.givings)
     ∙ (ap (presence_after_announcing n) here ∙ stays_online n some))
 
-pub quiesce_answer : (b : Bank) (p q r : Pass) (stamp : Stamp) → IsReady b p → 0 < (view p).left → IsPassOf b q → stack_of q ≡ stack_of p → IsCalm (view p) (view q) → (n : ℕ) × (freed : ℕ) × Collected (view_after (Announce (view p).number n) (view_after (WriteNumber n) (view p))) (view q) freed → 0 < announces (view q).log → IsPassOf b r → stack_of r ≡ stack_of q → view r ≡ answered_view call.Quiesce reply.Done stamp.number (view q) → stamp.wrote ≡ false → seen_writes (view q) ≤ stamp.number → HasAnswer b call.Quiesce reply.Done stamp p r
-quiesce_answer b p q r stamp ready left pass_q stack_q calm did on pass_r stack_r is read seen =
+-- what a pass is after a `quiesce`, that knew x when its idle boxes were merged
+pub idle_merged : (v x : View) → MergesIdleBoxes v x → HasMergedBoxes v.log → HasMergedBoxes x.log
+idle_merged v x merges merged b = ⊎_elim (λ (e : (made_state b x.log ≡ made_state b v.log) × (local_count b x.log ≡ local_count b v.log)). λ own. merged b (sym e.0 ∙ own)) (λ (e : (made_state b x.log ≡ state_merged) × FoundCounts b 0 v x). λ own. other (sym e.0 ∙ own)) (merges b)
+  where
+    other : state_merged ≢ state_default
+    other e = omega (arith, e)
+
+pub quiesce_answer : (b : Bank) (p q r : Pass) (x : View) (stamp : Stamp) → IsReady b p → 0 < (view p).left → IsPassOf b q → stack_of q ≡ stack_of p → IsCalm (view p) (view q) → StaysPass (view p) x → LeavesNoIdleBox (view p) x → (n : ℕ) × (freed : ℕ) × Collected (view_after (Announce x.number n) (view_after (WriteNumber n) x)) (view q) freed → 0 < announces (view q).log → IsPassOf b r → stack_of r ≡ stack_of q → view r ≡ answered_view call.Quiesce reply.Done stamp.number (view q) → stamp.wrote ≡ false → seen_writes (view q) ≤ stamp.number → HasAnswer b call.Quiesce reply.Done stamp p r
+quiesce_answer b p q r x stamp ready left pass_q stack_q calm first idle did on pass_r stack_r is read seen =
     let v = view p in
     let u = view q in
     let made = answered_entry call.Quiesce reply.Done stamp u read (subst (λ (n : ℕ). 0 < n) (sym calm.left) left) seen in
     let stack = stack_r ∙ stack_q in
     let now = ready_answered call.Quiesce reply.Done b q r stamp.number refl (ready_calm b p q ready pass_q stack_q calm) pass_r stack_r is in
     record {
-      entry = calm_entry call.Quiesce reply.Done stamp v u (view r) calm (λ _. on) (quiesced_online v u did.0 did.1 did.2 on) left is read seen;
+      entry = calm_entry call.Quiesce reply.Done stamp v u (view r) calm (λ _. on) (λ here. quiesced_online x u did.0 did.1 did.2 on (first.stays_online here)) left is read seen;
       resume = ready_resumes b r now;
       top = λ none. absurd (true≢false (sym none));
       stack = stack ∙ ap (λ (t : Taking). with_own (stack_of p) t) ready.own;
       walked = λ number. ap (option_map container_of) (ap (λ (z : View). cursor_in number z.log) is ∙ calm.cursors number);
-      collected = record { start = v; earlier = (same_nothing v).pass; number = did.0; after = u; freed = did.1; collected = did.2; later = subst (StaysPass u) (sym is) made.pass };
+      collected = record { start = v; earlier = (same_nothing v).pass; merged = x; idle = idle; number = did.0; after = u; freed = did.1; collected = did.2; later = subst (StaysPass u) (sym is) made.pass };
       marks = ap section_marks stack;
       mark = ap (λ (s : Stack). s.mark) stack;
       ends = tt;

@@ -10,6 +10,7 @@ ghost use Rattle.ft_engine.specs.Answering.{IsTryOfCall};
 ghost use Rattle.ft_table_calls.specs.TriesUnderLocks.{objects_by};
 
 use ft_bank::{Bank, Pass};
+use ft_boxes::merge_idle;
 use ft_model::{Call, Reply};
 use ft_section::{Began, Ended, Object, Stamp, Step};
 use ft_table_calls::named_objects;
@@ -41,13 +42,15 @@ pub(crate) fn end(bank: &Bank, pass: &mut Pass) -> Step
     }
 }
 
-/// `quiesce`: the caller holds on to no table that it has read before, and what it retired is given back where all
+/// `quiesce`: the caller merges each of its boxes whose counts add up to 0, so that its place is free again (PEP 703, Biased
+/// Reference Counting). Then it holds on to no table that it has read before, and what it retired is given back where all
 /// others hold on to nothing older (PEP 703, QSBR).
 pub(crate) fn quiesce(bank: &Bank, pass: &mut Pass) -> Step
     requires ready { IsReady bank.now pass.old }
     requires left { 0 < (view pass.old).left }
     ensures { (hands : List (Option Cursor)) → IsTryOfCall bank.now hands call.Quiesce pass.old pass.new result }
 {
+    merge_idle(bank, pass);
     ft_qsbr::quiesce(bank, pass);
     let number = bank.stamp(pass);
     bank.answer(pass, &Call::Quiesce, &Reply::Done, number);

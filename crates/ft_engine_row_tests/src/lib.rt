@@ -3,6 +3,10 @@
 #![tactic(auto)]
 
 #[cfg(test)]
+mod boxed;
+#[cfg(test)]
+mod heaps;
+#[cfg(test)]
 mod keys;
 #[cfg(test)]
 mod lists;

@@ -17,7 +17,7 @@ pub struct Case<'a> {
 }
 
 /// Whether the calls of the script are answered so, in its order of turns, and that is a legal history.
-fn comes_out(alloc: Global, case: Case<'_>) -> Result<bool, Fail> {
+pub(crate) fn comes_out(alloc: Global, case: Case<'_>) -> Result<bool, Fail> {
     let script = parse(alloc, case.script.as_bytes())?;
     let expected = read_transcript(alloc, &script, case.transcript.as_bytes())?;
     let lists = play(alloc, &script, script.parts().order.as_slice())?;

@@ -10,6 +10,8 @@ mod first_turns;
 #[cfg(test)]
 mod giving_up;
 #[cfg(test)]
+mod heaps;
+#[cfg(test)]
 mod looking;
 #[cfg(test)]
 mod many;
@@ -17,8 +19,10 @@ mod many;
 mod orders;
 #[cfg(test)]
 mod plain;
+mod scripted;
 mod starting;
 mod turns;
 mod workers;
 
 pub use crate::cases::{Case, all_come_out};
+pub use crate::scripted::{Calls, ScriptedCalls, all_are_answered};

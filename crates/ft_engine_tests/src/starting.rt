@@ -50,7 +50,7 @@ fn tables_of(alloc: Global, script: &ScriptParts) -> Result<Vec<u32>, Fail> {
 
 /// The shape of the script's bank.
 fn shape_for(alloc: Global, script: &ScriptParts) -> Result<Shape, Fail>
-    ensures { IfOk result (λ s. (s.passes ≡ length script.now.threads) × (s.heap ≡ 64) × (s.calls ≡ 1000)) }
+    ensures { IfOk result (λ s. (s.passes ≡ length script.now.threads) × (s.heap ≡ script.now.heap) × (s.calls ≡ 1000)) }
 {
     let Ok(passes) = u32::try_from(script.threads.len()) else {
         return Err(Fail::from("there are few threads"));
@@ -59,7 +59,7 @@ fn shape_for(alloc: Global, script: &ScriptParts) -> Result<Shape, Fail>
         kinds: kinds_of(alloc, script)?,
         texts: texts_of(alloc, script)?,
         tables: tables_of(alloc, script)?,
-        heap: 64,
+        heap: script.heap,
         passes,
         calls: CALLS,
     })

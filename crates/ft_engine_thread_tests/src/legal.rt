@@ -92,6 +92,16 @@ fn most_threads_on_one_dict(rt: HostRuntime) -> Result<(), Fail> {
     Ok(())
 }
 
+// Each thread stores strings and great integers, drops its own and those of others, and reads them meanwhile.
+#[test]
+fn most_threads_store_and_drop_boxed_values_in_one_dict(rt: HostRuntime) -> Result<(), Fail> {
+    let lines =
+        "set d 1 1000\nget d 1\nset d 2 \"b\"\npopd d 1 None\nset d 2 2000\nquiesce\nitems d\npopitem d\n";
+    let text = alike(rt.alloc(), "dict d\n", 64, lines)?;
+    assert_eq!(rt; legal_entries(&rt, rt.alloc(), &text)?, Some(512));
+    Ok(())
+}
+
 #[test]
 fn most_threads_in_sections_on_two_dicts(rt: HostRuntime) -> Result<(), Fail> {
     let text = numbered(rt.alloc(), 64)?;
@@ -159,7 +169,7 @@ const WRITER: &str = "set d 1 5\nget d 1\nset d 2 6\ndel d 1\n";
 
 const READER: &str = "get d 1\nhas d 2\nlen d\nsetdefault d 3 1\n";
 
-const REPEATED: [Repeated; 4] = [
+const REPEATED: [Repeated; 6] = [
     Repeated {
         name: "four threads on one dict",
         containers: "dict d\n",
@@ -200,6 +210,30 @@ const REPEATED: [Repeated; 4] = [
         ],
         times: 100,
         entries: 1300,
+    },
+    Repeated {
+        name: "boxed values of four threads in two dicts",
+        containers: "dict d\ndict e\n",
+        threads: &[
+            ("A", "set d 1 1000\nset d 2 \"a\"\npopd d 1 None\nquiesce\n"),
+            ("B", "set d 1 \"b\"\nset d 3 2000\npop d 2\nquiesce\n"),
+            ("C", "get d 1\nsetdefault d 2 \"c\"\nitems d\nquiesce\n"),
+            ("D", "update d e\nclear d\nset e 1 3000\nquiesce\n"),
+        ],
+        times: 100,
+        entries: 1600,
+    },
+    // A comes to no quiescent point, so the places of what B and C drop never come back to it.
+    Repeated {
+        name: "heaps that are full",
+        containers: "list l\n",
+        threads: &[
+            ("A", "append l 1000\nappend l \"a\"\nset l -1 2000\n"),
+            ("B", "pop l\ninsert l 0 \"b\"\nquiesce\n"),
+            ("C", "del l 0\nappend l 3000\nreverse l\n"),
+        ],
+        times: 200,
+        entries: 1800,
     },
 ];
 

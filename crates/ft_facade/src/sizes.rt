@@ -12,8 +12,6 @@ use std::alloc::{AllocError, Global};
 const MOST_CONTAINERS: u64 = 256;
 /// How many strings an engine has at most (profile).
 const MOST_TEXTS: u32 = 65536;
-/// How many places for boxed values each session has, the least number: no value is boxed yet.
-const HEAP: u32 = 64;
 /// How many cursors a session has at most: the room for them is taken when it is opened.
 pub const MOST_CURSORS: u32 = 65536;
 
@@ -34,6 +32,9 @@ pub struct Sizes {
     pub cursors: u32,
     /// How many strings may be keys, at most 65,536. They are numbered from 0; a value may be any string.
     pub texts: u32,
+    /// How many places for boxed values each session has, 64 to 4,096 in steps of 64: an integer outside -5..256 or a string
+    /// takes one as a value, from when the session stores it until no container has it any more.
+    pub heap: u32,
     /// How many tables of each class from 3 to 16, 1 to 1,024 of each.
     pub tables: Vec<u32>,
 }
@@ -72,7 +73,7 @@ impl Sizes {
     pub fn into_shape(self, alloc: Global) -> Result<Shape, OpenFault>
         ensures kinds { IfOk result (λ shape. shape.kinds.items ≡ kinds_of self.dicts self.lists self.sets) }
         ensures texts { IfOk result (λ shape. length shape.texts.items ≡ self.texts) }
-        ensures heap { IfOk result (λ shape. shape.heap ≡ 64) }
+        ensures heap { IfOk result (λ shape. shape.heap ≡ self.heap) }
         ensures passes { IfOk result (λ shape. shape.passes ≡ self.threads) }
         ensures calls { IfOk result (λ shape. shape.calls ≡ self.calls) }
         ensures tables { IfOk result (λ shape. shape.tables.items ≡ self.tables.items) }
@@ -87,6 +88,7 @@ impl Sizes {
             calls,
             cursors,
             texts,
+            heap,
             tables,
         } = self;
         let containers = u64::from(dicts) + u64::from(lists) + u64::from(sets);
@@ -97,7 +99,7 @@ impl Sizes {
             kinds: kinds(alloc, dicts, lists, sets)?,
             texts: hashes(alloc, texts)?,
             tables,
-            heap: HEAP,
+            heap,
             passes: threads,
             calls,
         })

@@ -5,7 +5,6 @@ use Rattle.std.specs.Prelude.{nat_lt}
 use Rattle.ft_model.specs.declared.call.Call.{Call}
 use Rattle.ft_model.specs.declared.call.ListCall.{ListCall}
 use Rattle.ft_model.specs.declared.data.Value.{Value}
-use Rattle.ft_model.specs.declared.reply.Reply.{Reply}
 use Rattle.ft_model.specs.declared.reply.Reply.TheVariants as reply
 use Rattle.ft_model.specs.Classes.{most_items}
 use Rattle.ft_model.specs.TableUses.{StoredWorld, list_takes}
@@ -22,12 +21,10 @@ use Rattle.ft_trace.specs.Holds.{held_words, known_state}
 use Rattle.ft_trace.specs.Pictures.{root_in}
 use Rattle.ft_trace.specs.Traces.{IsReachable}
 use Rattle.ft_bank.specs.declared.table.Table.{Table}
-use Rattle.ft_bank.specs.Answered.{Answered}
 use Rattle.ft_bank.specs.BoxSteps.{box_id, IsBoxIn}
-use Rattle.ft_bank.specs.SameBoxes.{SameMade, SameReferences, StaysSettled}
+use Rattle.ft_bank.specs.SameBoxes.{StaysSettled}
 use Rattle.ft_bank.specs.Whole.{OnlyLoaded, SameWork}
 use Rattle.ft_bank.specs.WriteSteps.{MayHave}
-use Rattle.ft_bank.proofs.BoxedSteps.{made_then}
 use Rattle.ft_bank.proofs.DoneBoxes.{settled_then, stays_settled_same}
 use Rattle.ft_bank.proofs.KnownAfterWrites.{loaded_then, work_knows}
 use Rattle.ft_boxes.specs.References.{HoldsBox}
@@ -35,16 +32,16 @@ use Rattle.ft_search.proofs.Changing.{no_keys}
 use Rattle.ft_search.proofs.Overs.{boxed_names, held_same, other_way}
 use Rattle.ft_table_calls.specs.declared.adding.Added.{Added}
 use Rattle.ft_table_calls.specs.declared.adding.Added.TheVariants as added
-use Rattle.ft_table_calls.specs.Adding.{IsAdded, KeepsCursors, Retires}
+use Rattle.ft_table_calls.specs.Adding.{KeepsCursors, Retires, WasMade}
 use Rattle.ft_table_calls.proofs.Cursors.{added_cursors}
 use Rattle.ft_table_calls.proofs.GrowthMidst.{retired_same}
-use Rattle.ft_list.specs.HeldValues.{AddsHeld, AddsStored, GivesReference, HasStored, HasWordsFrom, HoldsValue, IsAddedStoring}
+use Rattle.ft_table_calls.proofs.Unmade.{is_made, not_made, unmade_untouched}
+use Rattle.ft_search.specs.HeldValues.{HoldsValue}
+use Rattle.ft_list.specs.HeldValues.{AddsHeldItem, AddsStored, GivesReference, HasStored, HasWordsFrom, IsAddedStoring}
 use Rattle.ft_list.specs.ListItemWrites.{known_items}
 use Rattle.ft_list.specs.ListWrites.{Adds}
-use Rattle.ft_list.specs.Internal.Additions.{IsMade}
 use Rattle.ft_list.specs.Internal.NewListTables.{KnowsList, list_use_of}
-use Rattle.ft_list.specs.Internal.StoredBoxes.{Drops, DropsUnmade}
-use Rattle.ft_list.proofs.AddedStored.{is_made}
+use Rattle.ft_table_calls.specs.Dropping.{Drops, DropsUnmade}
 use Rattle.ft_list.proofs.GrownLists.{knows_content}
 use Rattle.ft_list.proofs.HeldWrites.{done_alone, holds_box}
 use Rattle.ft_list.proofs.Wanted.{list_use}
@@ -76,60 +73,6 @@ adds_stored k o stored old v u w total called what loaded list shape possible to
     λ d. list_takes ((sym table ∙ ap (λ (z : ContainerState). z.table) same) d) (total_is d) in
     let over : nat_lt most_items total ≡ nat_lt most_items (length (known_items o v) + 1) = ap (λ (z : ℕ). nat_lt most_items z) total_is in
     (u, loaded, subst (λ (z : Option ℕ × Bool). IsAddedStoring k z.0 z.1 stored called u w what) (λ d. (takes d, over d)) is)
-
--- ---- the box, where the call wasn't made
-
--- what an entry leaves
-module _ (called : Call) (said : Reply) (n : ℕ) (v w : View) (x : Answered called said n v w) where
-  answered_same : SameReferences v w
-  answered_same b = ap (λ (z : View). references_held z.shape b z.log) x.answered ∙ x.loaded.boxes.references b
-
-  answered_made : SameMade v w
-  answered_made =
-      made_then v x.before w x.loaded.boxes.made
-      (subst (SameMade x.before) (sym x.answered) (record { state = λ b. refl; local = λ b. refl; taken = λ b. refl; places = λ b. refl; uses = λ b. refl }))
-
-  answered_shape : w.shape ≡ v.shape
-  answered_shape = ap (λ (z : View). z.shape) x.answered ∙ x.loaded.work.pass.shape
-
-  answered_writes : (p : ℕ) → is_writing p w.log ≡ is_writing p v.log
-  answered_writes p = ap (λ (z : View). is_writing p z.log) x.answered ∙ x.loaded.work.pass.writes p
-
--- what a call leaves that wasn't made
-record LeavesAll (v w : View) : Type 0 where
-  references : SameReferences v w
-  made : SameMade v w
-  shape : w.shape ≡ v.shape
-  writes : (p : ℕ) → is_writing p w.log ≡ is_writing p v.log
-
-unmade_leaves : (k : Shape) (takes : Option ℕ) (over : Bool) (called : Call) (v w : View) (what : Added) → is_made what ≡ false → IsAdded k takes over called reply.Done v w what → LeavesAll v w
-unmade_leaves k takes over called v w (added.Made stamp) unmade x = absurd (true≢false unmade)
-unmade_leaves k takes over called v w (added.NoTable class stamp) unmade x =
-    let y = x.3 in
-    let a = y.2 in
-    let tried = y.1.keeps.boxes in
-    record {
-      references = λ b. answered_same called _ stamp.number y.0 w a b ∙ tried.references b;
-      made = made_then v y.0 w tried.made (answered_made called _ stamp.number y.0 w a);
-      shape = answered_shape called _ stamp.number y.0 w a ∙ y.1.same.shape;
-      writes = λ p. answered_writes called _ stamp.number y.0 w a p ∙ y.1.same.writes p;
-    }
-unmade_leaves k takes over called v w (added.Over stamp) unmade x = record {
-  references = answered_same called _ stamp.number v w x.2;
-  made = answered_made called _ stamp.number v w x.2;
-  shape = answered_shape called _ stamp.number v w x.2;
-  writes = answered_writes called _ stamp.number v w x.2;
-}
-unmade_leaves k takes over called v w (added.Moved a b) unmade x =
-    let y = x.1.2 in
-    record { references = y.keeps.boxes.references; made = y.keeps.boxes.made; shape = y.same.shape; writes = y.same.writes }
-
--- the steps of a call that wasn't made
-unmade_added : (k : Shape) (takes : Option ℕ) (over : Bool) (stored : Stored) (called : Call) (v w : View) (what : Added) → is_made what ≡ false → IsAddedStoring k takes over stored called v w what → IsAdded k takes over called reply.Done v w what
-unmade_added k takes over stored called v w (added.Made stamp) unmade x = absurd (true≢false unmade)
-unmade_added k takes over stored called v w (added.NoTable class stamp) unmade x = x
-unmade_added k takes over stored called v w (added.Over stamp) unmade x = x
-unmade_added k takes over stored called v w (added.Moved a b) unmade x = x
 
 -- ---- the box, where the call was made
 
@@ -171,15 +114,10 @@ made_gives k (Some class) over stored called v w (added.Made stamp) shape made x
     }
 made_gives k takes over stored called v w (added.NoTable class stamp) shape made x = absurd (true≢false (sym made))
 made_gives k takes over stored called v w (added.Over stamp) shape made x = absurd (true≢false (sym made))
+made_gives k takes over stored called v w (added.NoPlace stamp) shape made x = absurd x
 made_gives k takes over stored called v w (added.Moved a b) shape made x = absurd (true≢false (sym made))
 
 -- ---- both
-
-pub unmade_is : (what : Added) → ¬ IsMade what → is_made what ≡ false
-unmade_is (added.Made stamp) none = absurd (none (stamp, refl))
-unmade_is (added.NoTable class stamp) none = refl
-unmade_is (added.Over stamp) none = refl
-unmade_is (added.Moved a b) none = refl
 
 -- the pass, which is to add a value in a box, came to this at d, and then to w
 module _ (k : Shape) (o place : ℕ) (value : Value) (b : Ref) (called : Call) (v u d w : View) (shape : v.shape ≡ k) (loaded : OnlyLoaded v u) (h : HoldsValue b value u) (settled : IsSettled u.log) (idle : (p : ℕ) → is_writing p u.log ≡ false) (takes : Option ℕ) (over : Bool) where
@@ -196,16 +134,16 @@ module _ (k : Shape) (o place : ℕ) (value : Value) (b : Ref) (called : Call) (
   loads_held c = loaded.boxes.references c
 
   -- where it wasn't made the pass holds the reference still
-  pub unmade_holds : (what : Added) → is_made what ≡ false → IsAddedStoring k takes over (Boxed b) called u d what → HoldsBox b d × IsSettled d.log
+  pub unmade_holds : (what : Added) → (WasMade what → ⊥) → IsAddedStoring k takes over (Boxed b) called u d what → HoldsBox b d × IsSettled d.log
   unmade_holds what unmade x =
-      let l = unmade_leaves k takes over called u d what unmade (unmade_added k takes over (Boxed b) called u d what unmade x) in
+      let l = unmade_untouched (GivesReference k (Boxed b)) k takes over called reply.Done u d what unmade x in
       let held = holds_box b value u h in (
         (subst (λ (z : Shape). IsBoxIn z b) (sym l.shape) held.0, subst (λ (n : ℕ). 0 < n) (sym (l.references (box_id b))) held.1),
         (stays_settled_same u d l.made).settled settled,
       )
 
   module _ (what : Added) (x : IsAddedStoring k takes over (Boxed b) called u d what) (adds : AddsStored k o (Boxed b) called v d what) where
-    made_held : is_made what ≡ true → w ≡ d → HasWordsFrom o (known_items o v) place value 4 (box_id b) d × ((c : ℕ) → place_use c d.log ≢ use_taken) → HasStored o place value b v d w what → AddsHeld k o place value b called v w what
+    made_held : is_made what ≡ true → w ≡ d → HasWordsFrom o (known_items o v) place value 4 (box_id b) d × ((c : ℕ) → place_use c d.log ≢ use_taken) → HasStored o place value b v d w what → AddsHeldItem k o place value b called v w what
     made_held made same named stored =
         let g = made_gives k takes over (Boxed b) called u d what first made x in
         let held : (c : ℕ) → references_held k c d.log + cond (eqb c (box_id b)) 1 0 ≡ references_held k c u.log = λ c.
@@ -213,7 +151,7 @@ module _ (k : Shape) (o place : ℕ) (value : Value) (b : Ref) (called : Call) (
         let names = boxed_names c 4 (box_id b) refl in
         let way = other_way (box_id b) c in
         omega (arith, r, names, way) in
-        subst (λ (z : View). AddsHeld k o place value b called v z what) (sym same)
+        subst (λ (z : View). AddsHeldItem k o place value b called v z what) (sym same)
         (record {
           done = d;
           added = adds;
@@ -235,10 +173,9 @@ module _ (k : Shape) (o place : ℕ) (value : Value) (b : Ref) (called : Call) (
           };
         })
 
-    unmade_held : is_made what ≡ false → Drops b d w → HasStored o place value b v d w what → AddsHeld k o place value b called v w what
+    unmade_held : (WasMade what → ⊥) → Drops b d w → HasStored o place value b v d w what → AddsHeldItem k o place value b called v w what
     unmade_held unmade drops stored =
-        let is = unmade_added k takes over (Boxed b) called u d what unmade x in
-        let l = unmade_leaves k takes over called u d what unmade is in
+        let l = unmade_untouched (GivesReference k (Boxed b)) k takes over called reply.Done u d what unmade x in
         record {
           done = d;
           added = adds;
@@ -248,20 +185,21 @@ module _ (k : Shape) (o place : ℕ) (value : Value) (b : Ref) (called : Call) (
               let same = l.references c in
               let loads = loads_held c in
               omega (arith, less, same, loads);
-          cursors = λ number. drops.only.work.pass.cursors number ∙ (added_cursors k takes over called reply.Done u d what is number ∙ loaded.work.pass.cursors number);
+          cursors = λ number. drops.only.work.pass.cursors number ∙ (added_cursors (GivesReference k (Boxed b)) k takes over called reply.Done u d what x number ∙ loaded.work.pass.cursors number);
           boxes = done_alone k b d w (λ c. l.references c ∙ h.one c) (λ c taken. h.taken c (sym (l.made.uses c) ∙ taken)) (drops.only.work.pass.shape ∙ (l.shape ∙ first)) drops.settled (λ p. l.writes p ∙ idle p) drops.less drops.places drops.gone;
         }
 
-  pub held_added : (what : Added) → IsAddedStoring k takes over (Boxed b) called u d what → AddsStored k o (Boxed b) called v d what → (IsMade what → HasWordsFrom o (known_items o v) place value 4 (box_id b) d × ((c : ℕ) → place_use c d.log ≢ use_taken)) → DropsUnmade b d w what → AddsHeld k o place value b called v w what
+  pub held_added : (what : Added) → IsAddedStoring k takes over (Boxed b) called u d what → AddsStored k o (Boxed b) called v d what → (WasMade what → HasWordsFrom o (known_items o v) place value 4 (box_id b) d × ((c : ℕ) → place_use c d.log ≢ use_taken)) → DropsUnmade b d w what → AddsHeldItem k o place value b called v w what
   held_added (added.Made stamp) x adds named drops =
       let n = named (stamp, refl) in
       made_held (added.Made stamp) x adds refl drops n (drops, subst (λ (z : View). HasWordsFrom o (known_items o v) place value 4 (box_id b) z) (sym drops) n.0)
-  held_added (added.NoTable class stamp) x adds named drops = unmade_held (added.NoTable class stamp) x adds refl drops drops.only
-  held_added (added.Over stamp) x adds named drops = unmade_held (added.Over stamp) x adds refl drops drops.only
-  held_added (added.Moved p q) x adds named drops = unmade_held (added.Moved p q) x adds refl drops drops.only
+  held_added (added.NoTable class stamp) x adds named drops = unmade_held (added.NoTable class stamp) x adds (not_made (added.NoTable class stamp) refl) drops drops.only
+  held_added (added.Over stamp) x adds named drops = unmade_held (added.Over stamp) x adds (not_made (added.Over stamp) refl) drops drops.only
+  held_added (added.NoPlace stamp) x adds named drops = absurd x
+  held_added (added.Moved p q) x adds named drops = unmade_held (added.Moved p q) x adds (not_made (added.Moved p q) refl) drops drops.only
 
 -- the same before loads
-pub held_loaded : (k : Shape) (o place : ℕ) (value : Value) (b : Ref) (called : Call) (v u w : View) (what : Added) → OnlyLoaded v u → AddsHeld k o place value b called u w what → AddsHeld k o place value b called v w what
+pub held_loaded : (k : Shape) (o place : ℕ) (value : Value) (b : Ref) (called : Call) (v u w : View) (what : Added) → OnlyLoaded v u → AddsHeldItem k o place value b called u w what → AddsHeldItem k o place value b called v w what
 held_loaded k o place value b called v u w what loaded is =
     let same : known_state o u ≡ known_state o v = work_knows v u o loaded.work in
     let x = is.added in
@@ -285,4 +223,5 @@ held_loaded k o place value b called v u w what loaded is =
     at (added.Made stamp) s = (s.0, subst (λ (z : ContainerState). HasWordsFrom o (list_of z.content) place value 4 (box_id b) w) (work_knows v u o loaded.work) s.1)
     at (added.NoTable class stamp) s = s
     at (added.Over stamp) s = s
+    at (added.NoPlace stamp) s = s
     at (added.Moved p q) s = s

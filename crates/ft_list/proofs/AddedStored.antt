@@ -1,6 +1,6 @@
 -- Calls that add a value in place or in a box: what the pass may store it may store still, the write stores the box, and
 -- what such a call comes to where the value stands in place.
-use Rattle.std.proofs.Common.{◌≡◌, ◌≢◌, ℕ, zero, suc, ◌+◌, ◌<◌, ◌≤◌, Bool, true, false, true≢false, List, length, Option, Some, None, refl, sym, ap, ◌∙◌, subst, inl, inr, arith}
+use Rattle.std.proofs.Common.{◌≡◌, ◌≢◌, ℕ, zero, suc, ◌+◌, ◌<◌, ◌≤◌, Bool, List, length, Option, Some, None, refl, sym, ap, ◌∙◌, subst, inl, inr, arith}
 use mathlib.Core.Logic.{dite}
 use native.Mathlib.Decide.{ℕ_discrete}
 use Rattle.ft_model.specs.declared.call.Call.{Call}
@@ -36,9 +36,9 @@ use Rattle.ft_list.specs.declared.addition.Addition.{Addition}
 use Rattle.ft_list.specs.declared.addition.Addition.TheVariants.{All, One}
 use Rattle.ft_list.specs.HeldValues.{GivesReference, IsAddedStoring}
 use Rattle.ft_list.specs.ListItemWrites.{WritesList}
-use Rattle.ft_list.specs.Internal.Additions.{CanStore, count_in, first_in, stored_in, IsMade, NamesAdded, StoresAddition}
+use Rattle.ft_list.specs.Internal.Additions.{CanStore, count_in, first_in, stored_in, NamesAdded, StoresAddition}
 use Rattle.ft_list.specs.Internal.Carrying.{KeepsItemValues}
-use Rattle.ft_list.specs.Internal.StoredBoxes.{StoresBox}
+use Rattle.ft_search.specs.HeldValues.{StoresBox}
 use Rattle.ft_list.proofs.CarriedWords.{words_kept, words_low}
 use Rattle.ft_list.proofs.NamedItems.{box_named, item_named}
 
@@ -158,16 +158,8 @@ plain_added k (Some class) over stored called v w (added.Made stamp) shape ne x 
     )
 plain_added k takes over stored called v w (added.NoTable class stamp) shape ne x = x
 plain_added k takes over stored called v w (added.Over stamp) shape ne x = x
+plain_added k takes over stored called v w (added.NoPlace stamp) shape ne x = x
 plain_added k takes over stored called v w (added.Moved a b) shape ne x = x
-
-abbrev pub is_made : Added → Bool
-is_made (added.Made stamp) = true
-is_made (added.NoTable class stamp) = false
-is_made (added.Over stamp) = false
-is_made (added.Moved a b) = false
-
-pub not_made : {A : Type 0} (what : Added) → is_made what ≡ false → IsMade what → A
-not_made what unmade made = absurd (true≢false (sym (ap is_made made.1) ∙ unmade))
 
 -- the retirement of a table takes no step with boxes
 pub retired_uses : (root : ℕ) (v w : View) → Retires root v w → (b : ℕ) → place_use b w.log ≡ place_use b v.log

@@ -40,8 +40,9 @@ use Rattle.ft_search.proofs.Owning.{held_is_box}
 use Rattle.ft_search.proofs.Puts.{few_same}
 use Rattle.ft_search.proofs.Unboxing.{reads_boxed}
 use Rattle.ft_section.specs.declared.answers.Stamp.{Stamp}
-use Rattle.ft_list.specs.HeldValues.{HoldsValue, MadeHeld}
-use Rattle.ft_list.specs.Internal.StoredBoxes.{StoresBox}
+use Rattle.ft_search.specs.HeldValues.{HoldsValue}
+use Rattle.ft_list.specs.HeldValues.{MadeHeld}
+use Rattle.ft_search.specs.HeldValues.{StoresBox}
 use Rattle.ft_list.specs.Internal.NewListTables.{KnowsList}
 use Rattle.ft_list.specs.ListItemWrites.{ReadsAs, known_items, stored_item}
 use Rattle.ft_list.specs.ListWrites.{Changes, MayBeginList, MayWriteList}

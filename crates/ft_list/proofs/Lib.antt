@@ -37,3 +37,4 @@ pub mod Undisturbed
 pub mod ListTries
 pub mod HeldWrites
 pub mod AddedHeld
+pub mod BoxedCalls

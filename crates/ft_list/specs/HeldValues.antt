@@ -1,5 +1,5 @@
 -- Calls that put a value in a list which stands in a box, for a pass that holds the box's one reference.
-use Rattle.std.specs.Prelude.{◌≡◌, ◌≢◌, ◌⊎◌, ℕ, suc, ◌+◌, ◌<◌, ◌≤◌, ◌==◌, cond, nat_lt, Bool, true, false, List, length, Option, Some, None}
+use Rattle.std.specs.Prelude.{◌≡◌, ◌⊎◌, ℕ, ◌+◌, ◌<◌, ◌≤◌, nat_lt, Bool, true, false, List, length, Option}
 use Rattle.ft_model.specs.declared.call.Call.{Call}
 use Rattle.ft_model.specs.declared.data.Value.{Value}
 use Rattle.ft_model.specs.declared.reply.Reply.{Reply}
@@ -14,36 +14,24 @@ use Rattle.ft_layout.specs.Words.{stored_kind, stored_payload}
 use Rattle.ft_trace.specs.declared.Shape.{Shape}
 use Rattle.ft_trace.specs.declared.View.{View}
 use Rattle.ft_trace.specs.Acts.{debt, stage}
-use Rattle.ft_trace.specs.Boxes.{names_box, place_use, references_held, use_taken, IsDoneWithBoxes}
-use Rattle.ft_trace.specs.ContainerStates.{changes}
+use Rattle.ft_trace.specs.Boxes.{names_box, references_held, IsDoneWithBoxes}
 use Rattle.ft_trace.specs.Holds.{held_words, known_state}
 use Rattle.ft_trace.specs.BoxWords.{box_kind}
-use Rattle.ft_trace.specs.Pictures.{item_field, root_in}
-use Rattle.ft_bank.specs.declared.table.Table.{Table}
-use Rattle.ft_bank.specs.declared.takings.Took.TheVariants as took
+use Rattle.ft_trace.specs.Pictures.{item_field}
 use Rattle.ft_bank.specs.Answered.{Answered}
-use Rattle.ft_bank.specs.TableNames.{table_id}
-use Rattle.ft_bank.specs.BoxSteps.{box_id, IsBoxIn}
+use Rattle.ft_bank.specs.BoxSteps.{box_id}
 use Rattle.ft_bank.specs.Whole.{OnlyBoxed, OnlyLoaded, Wrote}
-use Rattle.ft_boxes.specs.References.{HoldsOneLess, KnowsValue}
+use Rattle.ft_boxes.specs.References.{HoldsOneLess}
 use Rattle.ft_section.specs.declared.answers.Stamp.{Stamp}
 use Rattle.ft_search.specs.MadeCalls.{IsReplyTo}
 use Rattle.ft_table_calls.specs.declared.adding.Added.{Added}
 use Rattle.ft_table_calls.specs.declared.adding.Added.TheVariants as added
-use Rattle.ft_table_calls.specs.Adding.{IsAdded, KeepsCursors, Retires, TriedTaking}
+use Rattle.ft_table_calls.specs.Adding.{IsAddedWith, KeepsCursors}
 use Rattle.ft_list.specs.ListItemWrites.{known_items, stored_item}
 
--- The pass holds one reference, which is for this box, and knows that the value stands in it. A place that it has taken,
--- and in which no write of it has stored a value yet, is that of the box.
-pub record HoldsValue (b : Ref) (value : Value) (v : View) : Type 0 where
-  pub name : IsBoxIn v.shape b
-  pub one : (c : ℕ) → references_held v.shape c v.log ≡ cond (c == box_id b) 1 0
-  pub knows : KnowsValue b value v
-  pub taken : (c : ℕ) → place_use c v.log ≡ use_taken → c ≡ box_id b
-
 -- the item at this place of the list o names this box
-abbrev pub NamesBoxAt : ℕ → ℕ → Ref → View → Type 0
-NamesBoxAt o place b v =
+abbrev pub NamesBoxAtPlace : ℕ → ℕ → Ref → View → Type 0
+NamesBoxAtPlace o place b v =
     (item_field (held_words o v).table place 1 ≡ box_kind) × (item_field (held_words o v).table place 2 ≡ box_id b)
 
 -- The value with this kind and this payload, as its words stand, is that of the item at this place of the list o. Where the
@@ -77,44 +65,11 @@ GivesReference k stored v w =
     (b : ℕ) → references_held k b w.log + names_box b (stored_kind stored) (stored_payload stored)
     ≡ references_held k b v.log
 
--- The pass made the call as one whole write, which left the root of the container, and gave it the reference for what it
--- stores. (profile)
-pub record StoredInPlace (k : Shape) (stored : Stored) (called : Call) (number : ℕ) (v w : View) : Type 0 where
-  pub wrote : Wrote called reply.Done number v w
-  pub root : root_in (held_words (changes called) w) ≡ root_in (held_words (changes called) v)
-  pub references : GivesReference k stored v w
-
--- The pass took a table of this class and made the call as one whole write that put it into the root of the container in
--- the place of another table or of none, and gave the container the reference for what it stores; then it retired the table
--- that the root named before. (profile)
-pub record GrewStoring
-    (k : Shape) (class : ℕ) (stored : Stored) (called : Call) (number : ℕ) (v w : View) : Type 0 where
-  pub table : Table
-  pub taken : View
-  pub tried : TriedTaking k class (took.Taken table) v taken
-  pub other : root_in (held_words (changes called) taken) ≢ suc (table_id table)
-  pub done : View
-  pub wrote : Wrote called reply.Done number taken done
-  pub root : root_in (held_words (changes called) done) ≡ suc (table_id table)
-  pub references : GivesReference k stored taken done
-  pub retired : Retires (root_in (held_words (changes called) taken)) done w
-
--- the write of a call that takes no table, or one of this class
-abbrev pub StoredWith : Shape → Option ℕ → Stored → Call → ℕ → View → View → Type 0
-StoredWith k None stored called number v w = StoredInPlace k stored called number v w
-StoredWith k (Some class) stored called number v w = GrewStoring k class stored called number v w
-
 -- What a call comes to that adds what this stores: the same as where it stores a value in place, but that the reference
--- for a box is the container's once it was made.
+-- for a box is the container's once it was made. (profile)
 abbrev pub IsAddedStoring : Shape → Option ℕ → Bool → Stored → Call → View → View → Added → Type 0
-IsAddedStoring k takes over stored called v w (added.Made stamp) =
-    (over ≡ false) × (stamp.wrote ≡ true) × StoredWith k takes stored called stamp.number v w
-IsAddedStoring k takes over stored called v w (added.NoTable class stamp) =
-    IsAdded k takes over called reply.Done v w (added.NoTable class stamp)
-IsAddedStoring k takes over stored called v w (added.Over stamp) =
-    IsAdded k takes over called reply.Done v w (added.Over stamp)
-IsAddedStoring k takes over stored called v w (added.Moved a b) =
-    IsAdded k takes over called reply.Done v w (added.Moved a b)
+IsAddedStoring k takes over stored called v w what =
+    IsAddedWith (GivesReference k stored) k takes over called reply.Done v w what
 
 -- after loads, by the class of the table that the list o takes for its items and one more
 abbrev pub AddsStored : Shape → ℕ → Stored → Call → View → View → Added → Type 0
@@ -130,12 +85,13 @@ HasStored o place value b v u w (added.Made stamp) =
     (w ≡ u) × HasWordsFrom o (known_items o v) place value box_kind (box_id b) w
 HasStored o place value b v u w (added.NoTable class stamp) = OnlyBoxed u w
 HasStored o place value b v u w (added.Over stamp) = OnlyBoxed u w
+HasStored o place value b v u w (added.NoPlace stamp) = ⊥
 HasStored o place value b v u w (added.Moved c d) = OnlyBoxed u w
 
 -- What a call that adds one item to the list o comes to under the lock, where the item's value stands in this box, for
 -- which the pass has one reference less then: the item has it, or it was dropped. The pass has the cursors that it had,
 -- and is done with boxes.
-pub record AddsHeld
+pub record AddsHeldItem
     (k : Shape) (o place : ℕ) (value : Value) (b : Ref) (called : Call) (v w : View) (what : Added) : Type 0 where
   pub done : View
   pub added : AddsStored k o (Boxed b) called v done what

@@ -14,14 +14,14 @@ ghost use Rattle.ft_bank.specs.Passes.{shape_of, view, IsPassOf};
 ghost use Rattle.ft_bank.specs.PassSections.{stack_of};
 ghost use Rattle.ft_bank.specs.Whole.{OnlyLoaded};
 ghost use Rattle.ft_section.specs.declared.answers.Objects.TheVariants.{One};
-ghost use Rattle.ft_table_calls.specs.Adding.{KeepsCursors};
+ghost use Rattle.ft_table_calls.specs.Adding.{KeepsCursors, WasMade};
 ghost use Rattle.ft_list.specs.ListItemWrites.{known_items};
 ghost use Rattle.ft_list.specs.ListWrites.{MayWriteList, Adds};
 ghost use Rattle.ft_list.specs.ListGrowth.{AddsItems};
 ghost use Rattle.ft_list.specs.Internal.Carrying.{HoldsSpare};
 ghost use Rattle.ft_list.specs.Internal.NewListTables.{KnowsList, MayAdd, list_use_of};
 ghost use Rattle.ft_list.specs.HeldValues.{IsAddedStoring};
-ghost use Rattle.ft_list.specs.Internal.Additions.{count_in, stored_in, with_added, HasNamed, IsAddition, IsMade, StoresAddition};
+ghost use Rattle.ft_list.specs.Internal.Additions.{count_in, stored_in, with_added, HasNamed, IsAddition, StoresAddition};
 
 use crate::addition::{Addition, added_count};
 use crate::bare::write_nothing;
@@ -85,7 +85,7 @@ fn add_in_room(
     ensures stack { stack_of pass.new ≡ stack_of pass.old }
     ensures added { IsAddedStoring (shape_of bank.now) None false (stored_in addition) called.now (view pass.old)
         (view pass.new) result }
-    ensures named { IsMade result → HasNamed l addition (view pass.old) (view pass.new) }
+    ensures named { WasMade result → HasNamed l addition (view pass.old) (view pass.new) }
 {
     match old {
         Some(table) => {
@@ -133,7 +133,7 @@ fn add_in_taken(
     ensures stack { stack_of pass.new ≡ stack_of pass.old }
     ensures added { IsAddedStoring (shape_of bank.now) (Some class) false (stored_in addition) called.now (view pass.old)
         (view pass.new) result }
-    ensures named { IsMade result → HasNamed l addition (view pass.old) (view pass.new) }
+    ensures named { WasMade result → HasNamed l addition (view pass.old) (view pass.new) }
 {
     match take(bank, pass, class) {
         Took::Taken(table) => {
@@ -172,7 +172,7 @@ pub(crate) fn add_to(
     ensures stack { stack_of pass.new ≡ stack_of pass.old }
     ensures added { IsAddedStoring (shape_of bank.now) (list_takes (list_use_of old) (count + count_in addition))
         (nat_lt most_items (count + count_in addition)) (stored_in addition) called.now (view pass.old) (view pass.new) result }
-    ensures named { IsMade result → HasNamed l addition (view pass.old) (view pass.new) }
+    ensures named { WasMade result → HasNamed l addition (view pass.old) (view pass.new) }
 {
     let total = count + added_count(addition);
     if total > MOST_ITEMS as u64 {

@@ -18,10 +18,10 @@ ghost use Rattle.ft_bank.specs.Passes.{shape_of, view, IsPassOf};
 ghost use Rattle.ft_bank.specs.PassSections.{stack_of};
 ghost use Rattle.ft_bank.specs.Whole.{OnlyLoaded};
 ghost use Rattle.ft_search.specs.OneEntryWrites.{HasTable};
-ghost use Rattle.ft_boxes.specs.References.{HoldsBox, box_of};
-ghost use Rattle.ft_list.specs.HeldValues.{AddsHeld, HoldsValue, MadeHeld, NamesBoxAt};
-ghost use Rattle.ft_list.specs.Internal.Additions.{IsMade};
-ghost use Rattle.ft_list.specs.Internal.StoredBoxes.{DropsUnmade, WroteHeld};
+ghost use Rattle.ft_boxes.specs.References.{box_of};
+ghost use Rattle.ft_search.specs.HeldValues.{HoldsValue};
+ghost use Rattle.ft_list.specs.HeldValues.{AddsHeldItem, MadeHeld, NamesBoxAtPlace};
+ghost use Rattle.ft_list.specs.Internal.StoredBoxes.{WroteHeld};
 ghost use Rattle.ft_list.specs.ListItemWrites.{known_items, stored_item};
 ghost use Rattle.ft_list.specs.ListWrites.{Adds, Changes, MayBeginList};
 
@@ -31,11 +31,11 @@ use crate::locked::{LENGTH, place_in, raise, table_at_root, value_fits};
 use crate::reads::read_stored;
 use crate::writes::set_item;
 use ft_bank::{Bank, Pass, Table};
-use ft_boxes::{Held, keep, release, taken};
+use ft_boxes::{Held, keep, release};
 use ft_layout::{Ref, Stored};
 use ft_model::{Call, ListCall, Raise, Reply, Value};
 use ft_section::{Object, Stamp};
-use ft_table_calls::Added;
+use ft_table_calls::{Added, drop_unmade};
 
 /// The table of a list that isn't empty.
 fn table_in(bank: &Bank, pass: &mut Pass, l: Object) -> Table
@@ -87,7 +87,7 @@ fn set_box(
     ensures pass { IsPassOf bank.now pass.new }
     ensures stack { stack_of pass.new ≡ stack_of pass.old }
     ensures names { stored_item (known_items l (view pass.old)) place ≢ Plain value →
-        NamesBoxAt l place (box_of held) (view pass.new) }
+        NamesBoxAtPlace l place (box_of held) (view pass.new) }
     ensures wrote { WroteHeld (shape_of bank.now) l called.now result (view pass.old) (view pass.new) }
 {
     let old = read_stored(bank, pass, l, table, place);
@@ -141,7 +141,7 @@ pub fn set_held(
     ensures done { (place : ℕ) → index_in (length (known_items l (view pass.old))) index ≡ Some place →
         (result.0 ≡ reply.Done) × (result.1.wrote ≡ true) }
     ensures names { (place : ℕ) → index_in (length (known_items l (view pass.old))) index ≡ Some place →
-        stored_item (known_items l (view pass.old)) place ≢ Plain value → NamesBoxAt l place (box_of held) (view pass.new) }
+        stored_item (known_items l (view pass.old)) place ≢ Plain value → NamesBoxAtPlace l place (box_of held) (view pass.new) }
     ensures raises { index_in (length (known_items l (view pass.old))) index ≡ None →
         (result.0 ≡ reply.Raised raise.NoIndex) × (result.1.wrote ≡ false) }
 {
@@ -183,25 +183,6 @@ struct BoxedItem {
     at: Ref,
 }
 
-/// Drops the reference for a box that a call was to add to a list, where the call wasn't made.
-fn drop_unmade(bank: &Bank, pass: &mut Pass, at: Ref, added: Added) -> Added
-    requires pass { IsPassOf bank.now pass.old }
-    requires held { ¬ IsMade added → HoldsBox at (view pass.old) × IsSettled (view pass.old).log }
-    ensures pass { IsPassOf bank.now pass.new }
-    ensures stack { stack_of pass.new ≡ stack_of pass.old }
-    ensures same { result ≡ added }
-    ensures drops { DropsUnmade at (view pass.old) (view pass.new) added }
-{
-    match added {
-        Added::Made(_) => {}
-        Added::NoTable(_, _) | Added::Over(_) | Added::Moved(_, _) => {
-            let held = taken(bank, pass, at);
-            release(bank, pass, held);
-        }
-    }
-    added
-}
-
 /// Adds a value in a box, for which the pass holds the one reference, to a list of that many items, as the write of this
 /// call. Where the call isn't made the reference is dropped.
 fn add_box(
@@ -224,7 +205,7 @@ fn add_box(
     requires boxing { (world : StoredWorld) → boxes world.world called.now ≡ is_boxed item.value }
     ensures pass { IsPassOf bank.now pass.new }
     ensures stack { stack_of pass.new ≡ stack_of pass.old }
-    ensures added { AddsHeld (shape_of bank.now) l item.place item.value item.at called.now (view pass.old) (view pass.new)
+    ensures added { AddsHeldItem (shape_of bank.now) l item.place item.value item.at called.now (view pass.old) (view pass.new)
         result }
 {
     let old = table_at_root(bank, pass, l);
@@ -234,7 +215,8 @@ fn add_box(
         stored: Stored::Boxed(item.at),
     };
     let added = add_to(bank, pass, l, old, addition, count, called);
-    drop_unmade(bank, pass, item.at, added)
+    drop_unmade(bank, pass, item.at, added);
+    added
 }
 
 /// `l.append(v)`, under the lock, where `v` stands in a box for which the pass holds the one reference. The item names that
@@ -252,7 +234,7 @@ pub fn append_held(bank: &Bank, pass: &mut Pass, l: Object, value: Value, held: 
     requires boxed { is_boxed value ≡ true }
     ensures pass { IsPassOf bank.now pass.new }
     ensures stack { stack_of pass.new ≡ stack_of pass.old }
-    ensures added { AddsHeld (shape_of bank.now) l (length (known_items l (view pass.old))) value (box_of held)
+    ensures added { AddsHeldItem (shape_of bank.now) l (length (known_items l (view pass.old))) value (box_of held)
         (call.List l (list.Append value)) (view pass.old) (view pass.new) result }
 {
     value_fits(value);
@@ -292,7 +274,7 @@ pub fn insert_held(
     requires boxed { is_boxed value ≡ true }
     ensures pass { IsPassOf bank.now pass.new }
     ensures stack { stack_of pass.new ≡ stack_of pass.old }
-    ensures added { AddsHeld (shape_of bank.now) l (clamped_in (length (known_items l (view pass.old))) index) value
+    ensures added { AddsHeldItem (shape_of bank.now) l (clamped_in (length (known_items l (view pass.old))) index) value
         (box_of held) (call.List l (list.Insert index value)) (view pass.old) (view pass.new) result }
 {
     value_fits(value);

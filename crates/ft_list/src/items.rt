@@ -236,6 +236,7 @@ fn close_item(bank: &Bank, pass: &mut Pass, o: u32, table: Table, start: u64, pl
 }
 
 /// Makes all versions of a list's items even after the commit, of which these alone can be odd.
+#[inline(always)]
 fn close_items(bank: &Bank, pass: &mut Pass, o: u32, table: Table, first: u64, past: u64)
     requires pass { IsPassOf bank.now pass.old }
     requires list { WritesList (shape_of bank.now) o table (view pass.old) }
@@ -262,6 +263,7 @@ fn close_items(bank: &Bank, pass: &mut Pass, o: u32, table: Table, first: u64, p
 
 /// Raises the counter for this call, which is the write, and makes the versions of the items and of the
 /// list even again. Answers the number of the write.
+#[inline(always)]
 pub(crate) fn finish(
     bank: &Bank,
     pass: &mut Pass,

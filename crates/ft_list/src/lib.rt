@@ -10,6 +10,7 @@
 mod adding;
 mod addition;
 mod bare;
+mod boxed;
 mod boxing;
 mod clearing;
 mod copies;
@@ -35,6 +36,7 @@ mod values;
 mod writes;
 
 pub use crate::adding::{append_by, extend_by, insert_by};
+pub use crate::boxed::{append_boxed, insert_boxed, set_boxed};
 pub use crate::boxing::{append_held, insert_held, set_held};
 pub use crate::clearing::clear_by;
 pub use crate::copies::copy_items;

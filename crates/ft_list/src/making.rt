@@ -11,6 +11,7 @@ ghost use Rattle.ft_section.specs.Ready.{IsMaking};
 ghost use Rattle.ft_list.specs.ListMaking.{FitsList, IsListIn, ListCallMakes};
 
 use crate::adding::{append_by, extend_by, insert_by};
+use crate::boxed::{append_boxed, insert_boxed, set_boxed};
 use crate::clearing::clear_by;
 use crate::copies::{items_locked, slice_locked};
 use crate::indexing::get_locked;
@@ -87,6 +88,9 @@ fn append(bank: &Bank, pass: &mut Pass, l: Object, value: Value) -> Made
     ensures stack { stack_of pass.new ≡ stack_of pass.old }
     ensures made { ListCallMakes (shape_of bank.now) l (list.Append value) result (view pass.old) (view pass.new) }
 {
+    if value.is_boxed() {
+        return Made::after(append_boxed(bank, pass, l, value), Reply::Done);
+    }
     Made::after(append_by(bank, pass, l, value), Reply::Done)
 }
 
@@ -102,6 +106,38 @@ fn append_apart(bank: &Bank, pass: &mut Pass, l: Object, value: Value) -> Made
     ensures made { ListCallMakes (shape_of bank.now) l (list.Append value) result (view pass.old) (view pass.new) }
 {
     append(bank, pass, l, value)
+}
+
+/// Inserts an item into the list `l`, by a pass that has its lock.
+fn insert(bank: &Bank, pass: &mut Pass, l: Object, index: i64, value: Value) -> Made
+    requires making { IsMaking bank.now pass.old }
+    requires locks { HasLocks (view pass.old) (One l) }
+    requires list { IsListIn (shape_of bank.now) l }
+    requires left { 0 < (view pass.old).left }
+    ensures making { IsMaking bank.now pass.new }
+    ensures stack { stack_of pass.new ≡ stack_of pass.old }
+    ensures made { ListCallMakes (shape_of bank.now) l (list.Insert index value) result (view pass.old) (view pass.new) }
+{
+    if value.is_boxed() {
+        return Made::after(insert_boxed(bank, pass, l, index, value), Reply::Done);
+    }
+    Made::after(insert_by(bank, pass, l, index, value), Reply::Done)
+}
+
+/// Sets an item of the list `l`, by a pass that has its lock.
+fn set(bank: &Bank, pass: &mut Pass, l: Object, index: i64, value: Value) -> Made
+    requires making { IsMaking bank.now pass.old }
+    requires locks { HasLocks (view pass.old) (One l) }
+    requires list { IsListIn (shape_of bank.now) l }
+    requires left { 0 < (view pass.old).left }
+    ensures making { IsMaking bank.now pass.new }
+    ensures stack { stack_of pass.new ≡ stack_of pass.old }
+    ensures made { ListCallMakes (shape_of bank.now) l (list.Set index value) result (view pass.old) (view pass.new) }
+{
+    if value.is_boxed() {
+        return Made::done(set_boxed(bank, pass, l, index, value));
+    }
+    Made::done(set_locked(bank, pass, l, index, value))
 }
 
 /// Makes a call on the list `l`, by a pass that has the locks of its lists.
@@ -126,12 +162,10 @@ fn make_list(
 {
     match *call {
         ListCall::Append { value } => append_apart(bank, pass, l, value),
-        ListCall::Insert { index, value } => {
-            Made::after(insert_by(bank, pass, l, index, value), Reply::Done)
-        }
+        ListCall::Insert { index, value } => insert(bank, pass, l, index, value),
         ListCall::Extend { other } => Made::after(extend_by(bank, pass, l, other), Reply::Done),
         ListCall::Get { index } => Made::done(get_locked(bank, pass, l, index)),
-        ListCall::Set { index, value } => Made::done(set_locked(bank, pass, l, index, value)),
+        ListCall::Set { index, value } => set(bank, pass, l, index, value),
         ListCall::Del { index } => Made::done(del_locked(bank, pass, l, index)),
         ListCall::Pop { index } => Made::done(pop_locked(bank, pass, l, index)),
         ListCall::Remove { value } => Made::done(remove_locked(bank, pass, l, value)),

@@ -47,6 +47,7 @@ fn read_value(bank: &Bank, pass: &mut Pass, l: Object, table: Table, place: u64)
 }
 
 /// What an item of a list's table stores, whose lock the pass has.
+#[inline(always)]
 pub(crate) fn read_stored(bank: &Bank, pass: &mut Pass, o: u32, table: Table, place: u64) -> Stored
     requires pass { IsPassOf bank.now pass.old }
     requires container { o < container_count (shape_of bank.now) }

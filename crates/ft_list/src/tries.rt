@@ -14,7 +14,8 @@ ghost use Rattle.ft_table_calls.specs.Adding.{KeepsCursors};
 ghost use Rattle.ft_table_calls.specs.TriesUnderLocks.{ComesTo, IsMade, IsRead, IsTry};
 ghost use Rattle.ft_reads.specs.Clears.{IsClear};
 ghost use Rattle.ft_reads.specs.Copies.{IsCopy};
-ghost use Rattle.ft_list.specs.ListGrowth.{AddsItems, ExtendsBy};
+ghost use Rattle.ft_list.specs.ListGrowth.{ExtendsBy};
+ghost use Rattle.ft_list.specs.ListMaking.{AppendsTo, InsertsInto, SetsItem};
 
 use crate::making::{Appender, ListMaker};
 use ft_bank::{Bank, Pass};
@@ -40,7 +41,7 @@ pub fn try_append(bank: &Bank, pass: &mut Pass, l: Object, value: Value) -> Step
     ensures may { MayTry bank.now pass.new (One l) }
     ensures sections { SectionsAfter bank.now (One l) pass.old pass.new result }
     ensures tried { IsTry (One l)
-        (ComesTo (AddsItems (shape_of bank.now) l (call.List l (list.Append value)) 1) reply.Done)
+        (ComesTo (AppendsTo (shape_of bank.now) l value) reply.Done)
         (view pass.old) (view pass.new) result }
     ensures cursors { KeepsCursors (view pass.old) (view pass.new) }
 {
@@ -66,7 +67,7 @@ pub fn try_insert(bank: &Bank, pass: &mut Pass, l: Object, index: i64, value: Va
     ensures may { MayTry bank.now pass.new (One l) }
     ensures sections { SectionsAfter bank.now (One l) pass.old pass.new result }
     ensures tried { IsTry (One l)
-        (ComesTo (AddsItems (shape_of bank.now) l (call.List l (list.Insert index value)) 1) reply.Done)
+        (ComesTo (InsertsInto (shape_of bank.now) l index value) reply.Done)
         (view pass.old) (view pass.new) result }
     ensures cursors { KeepsCursors (view pass.old) (view pass.new) }
 {
@@ -158,7 +159,7 @@ pub fn try_set(bank: &Bank, pass: &mut Pass, l: Object, index: i64, value: Value
     requires left { 0 < (view pass.old).left }
     ensures may { MayTry bank.now pass.new (One l) }
     ensures sections { SectionsAfter bank.now (One l) pass.old pass.new result }
-    ensures tried { IsTry (One l) (IsMade (call.List l (list.Set index value))) (view pass.old) (view pass.new) result }
+    ensures tried { IsTry (One l) (SetsItem (shape_of bank.now) l index value) (view pass.old) (view pass.new) result }
 {
     let called = Call::List {
         container: l,

@@ -29,7 +29,7 @@ ghost use Rattle.ft_list.specs.HeldValues.{GivesReference, HasWordsFrom};
 ghost use Rattle.ft_list.specs.ListItemWrites.{ReadsAs, WritesList, IsPutting, known_items, stored_item, stored_words};
 ghost use Rattle.ft_list.specs.Internal.Carrying.{HoldsFewBut, HoldsSpare};
 ghost use Rattle.ft_list.specs.Internal.Moving.{IsMoving};
-ghost use Rattle.ft_list.specs.Internal.StoredBoxes.{StoresBox};
+ghost use Rattle.ft_search.specs.HeldValues.{StoresBox};
 ghost use Rattle.ft_list.specs.ListWrites.{MayBeginList, MayWriteList, Changes};
 ghost use Rattle.ft_list.specs.Internal.Additions.{count_in, stored_in, with_added, IsAddition, NamesAdded, StoresAddition};
 ghost use Rattle.ft_search.specs.OneEntryWrites.{HasTable};

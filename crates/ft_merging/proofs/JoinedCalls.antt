@@ -97,7 +97,7 @@ joins_then k o t called v u w what only is = joins_by k o t called v is.0 w what
 -- it leaves the cursors of its pass
 pub joins_cursors : (k : Shape) (o t : ℕ) (called : Call) (v w : View) (what : Added) → JoinsBy k o t called v w what → KeepsCursors v w
 joins_cursors k o t called v w what x number =
-    added_cursors k (join_takes (known_state o v) (known_state t v).content) (passes_cap (joined (known_state o v).content (known_state t v).content)) called reply.Done x.0 w what x.2 number ∙ x.1.work.pass.cursors number
+    added_cursors _ k (join_takes (known_state o v) (known_state t v).content) (passes_cap (joined (known_state o v).content (known_state t v).content)) called reply.Done x.0 w what x.2 number ∙ x.1.work.pass.cursors number
 
 -- ---- numbers
 

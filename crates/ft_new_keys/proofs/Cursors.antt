@@ -16,6 +16,6 @@ use Rattle.ft_new_keys.specs.KeyGrowth.{PutsKey, holds, key_takes, most_of}
 pub puts_cursors : (k : Shape) (o : ℕ) (key : Key) (called : Call) (said : Reply) (v w : View) (what : Added) → PutsKey k o key called said v w what → KeepsCursors v w
 puts_cursors k o key called said v w what x number =
     let c = (known_state o v).content in
-    added_cursors k (if holds c key then None else key_takes c (known_state o v).table)
+    added_cursors _ k (if holds c key then None else key_takes c (known_state o v).table)
     (if holds c key then false else nat_lt (most_of c) (length_of c + 1)) called said x.0 w what x.2 number
     ∙ x.1.work.pass.cursors number

@@ -1,5 +1,5 @@
 -- What a call comes to that adds a key whose value may stand in a box: without a box, and where the write isn't made.
-use Rattle.std.proofs.Common.{◌≡◌, ◌≢◌, ℕ, zero, suc, ◌+◌, ◌<◌, Bool, eqb, cond, true, false, Option, Some, None, refl, sym, ap, ◌∙◌, subst, arith}
+use Rattle.std.proofs.Common.{◌≡◌, ℕ, zero, suc, ◌+◌, ◌<◌, Bool, false, Option, Some, None, refl, sym, ap, ◌∙◌, subst, arith}
 use Rattle.std.specs.Prelude.{nat_lt}
 use Rattle.std.specs.Option.{unwrap_or}
 use Rattle.ft_model.specs.declared.call.Call.{Call}
@@ -11,16 +11,13 @@ use Rattle.ft_layout.specs.declared.slot.Stored.{Stored}
 use Rattle.ft_trace.specs.declared.Shape.{Shape}
 use Rattle.ft_trace.specs.declared.View.{View}
 use Rattle.ft_trace.specs.Acts.{is_writing, owes, stage}
-use Rattle.ft_trace.specs.Addresses.{container_count}
-use Rattle.ft_trace.specs.Boxes.{made_state, local_count, taken_out, place_to_give, place_use, references_held, use_taken, IsDoneWithBoxes, IsSettled}
+use Rattle.ft_trace.specs.Boxes.{place_use, references_held, use_taken, IsDoneWithBoxes, IsSettled}
 use Rattle.ft_trace.specs.ContainerStates.{ContainerState, changes}
 use Rattle.ft_trace.specs.Holds.{held_words, held_unboxed, known_state}
 use Rattle.ft_trace.specs.Pictures.{root_in}
 use Rattle.ft_bank.specs.declared.table.Table.{Table}
-use Rattle.ft_bank.specs.declared.takings.Took.{Took}
-use Rattle.ft_bank.specs.Answered.{Answered}
 use Rattle.ft_bank.specs.BoxSteps.{box_id, IsBoxIn}
-use Rattle.ft_bank.specs.SameBoxes.{SameMade, SameReferences, TakesNoPlace}
+use Rattle.ft_bank.specs.SameBoxes.{TakesNoPlace}
 use Rattle.ft_bank.specs.TableNames.{table_id, IsTableIn}
 use Rattle.ft_bank.specs.Takings.{KeepsBut}
 use Rattle.ft_bank.specs.Whole.{OnlyLoaded, SamePass}
@@ -29,15 +26,14 @@ use Rattle.ft_bank.proofs.KnownAfterWrites.{loaded_boxed, work_knows}
 use Rattle.ft_bank.proofs.TableAddresses.{class_is}
 use Rattle.ft_boxes.specs.References.{HoldsBox, HoldsOneLess, LeavesNoTaken}
 use Rattle.ft_section.specs.declared.answers.Stamp.{Stamp}
-use Rattle.ft_search.specs.HeldValues.{NamesBoxAt}
 use Rattle.ft_search.proofs.Calling.{loaded_same}
 use Rattle.ft_search.proofs.Puts.{done_then, same_done}
 use Rattle.ft_table_calls.specs.declared.adding.Added.{Added}
 use Rattle.ft_table_calls.specs.declared.adding.Added.TheVariants as added
-use Rattle.ft_table_calls.specs.Adding.{IsAdded, KeepsCursors, Retires, TriedTaking}
-use Rattle.ft_table_calls.proofs.Cursors.{added_cursors}
-use Rattle.ft_table_calls.proofs.GrowthMidst.{retired_same}
-use Rattle.ft_new_keys.specs.HeldKeys.{AddsHeld, HoldsFor, IsPut, KeyInBox, MayPutInNew, MayPutKey, PutsOne, needed_for}
+use Rattle.ft_table_calls.specs.Adding.{IsAdded, Retires, WasMade}
+use Rattle.ft_table_calls.specs.Dropping.{Drops, DropsUnmade}
+use Rattle.ft_table_calls.proofs.Unmade.{Untouched, is_made, loaded_untouched, not_made, unmade_untouched, untouched_then}
+use Rattle.ft_new_keys.specs.HeldKeys.{AddsHeldKey, HoldsFor, IsPut, KeyInBox, MayPutInNew, MayPutKey, PutsOne}
 use Rattle.ft_new_keys.specs.KeyGrowth.{AddsOne, KnowsKeyed, MayAddKey, key_takes, most_of}
 use Rattle.ft_new_keys.proofs.Grown.{knows_on}
 use Rattle.ft_new_keys.proofs.HeldKeys.{needed_some, needs_one}
@@ -82,7 +78,7 @@ puts_one k o key boxed called said v u w what takes over only same_takes same_ov
 pub put_plain : (k : Shape) (o : ℕ) (key : Key) (takes : Option ℕ) (over : Bool) (called : Call) (said : Reply) (v w : View) (what : Added) → v.shape ≡ k → IsDoneWithBoxes k v.log → IsPut k o key None takes over called said v w what → IsAdded k takes over called said v w what
 put_plain k o key None over called said v w (added.Made stamp) shape done x =
     let y = x.2 in
-    (x.0, x.1, record { wrote = y.wrote; root = y.root; references = same_done k v w shape (y.wrote.pass.shape ∙ shape) done y.there.boxes })
+    (x.0, x.1, record { wrote = y.wrote; root = y.root; references = same_done k v w shape (y.wrote.pass.shape ∙ shape) done y.references.boxes })
 put_plain k o key (Some class) over called said v w (added.Made stamp) shape done x =
     let y = x.2 in
     let t = y.tried in
@@ -90,10 +86,11 @@ put_plain k o key (Some class) over called said v w (added.Made stamp) shape don
     let before = done_then k v y.taken shape t.same.shape t.keeps.boxes.references t.keeps.boxes.made done in (
       x.0,
       x.1,
-      record { table = y.table; taken = y.taken; tried = t; other = y.other; done = y.done; wrote = y.wrote; root = y.root; references = same_done k y.taken y.done first (y.wrote.pass.shape ∙ first) before y.there.boxes; retired = y.retired },
+      record { table = y.table; taken = y.taken; tried = t; other = y.other; done = y.done; wrote = y.wrote; root = y.root; references = same_done k y.taken y.done first (y.wrote.pass.shape ∙ first) before y.references.boxes; retired = y.retired },
     )
 put_plain k o key takes over called said v w (added.NoTable class stamp) shape done x = x
 put_plain k o key takes over called said v w (added.Over stamp) shape done x = x
+put_plain k o key takes over called said v w (added.NoPlace stamp) shape done x = x
 put_plain k o key takes over called said v w (added.Moved a b) shape done x = x
 
 pub adds_plain : (k : Shape) (o : ℕ) (key : Key) (called : Call) (said : Reply) (v w : View) (what : Added) → v.shape ≡ k → IsDoneWithBoxes k v.log → PutsOne k o key None called said v w what → AddsOne k o called said v w what
@@ -114,62 +111,18 @@ retired_there k o key boxed (suc t) v w is there =
 
 -- where the write was made the pass is done with boxes, and the entry names the box
 pub made_there : (k : Shape) (o : ℕ) (key : Key) (boxed : Option Ref) (takes : Option ℕ) (over : Bool) (called : Call) (said : Reply) (v w : View) (stamp : Stamp) → IsPut k o key boxed takes over called said v w (added.Made stamp) → KeyInBox k o key boxed w
-made_there k o key boxed None over called said v w stamp x = x.2.there
-made_there k o key boxed (Some class) over called said v w stamp x = retired_there k o key boxed (root_in (held_words (changes called) x.2.taken)) x.2.done w x.2.retired x.2.there
+made_there k o key boxed None over called said v w stamp x = x.2.references
+made_there k o key boxed (Some class) over called said v w stamp x = retired_there k o key boxed (root_in (held_words (changes called) x.2.taken)) x.2.done w x.2.retired x.2.references
 
-pub adds_made : (k : Shape) (o : ℕ) (key : Key) (b : Ref) (called : Call) (said : Reply) (v w : View) (what : Added) (stamp : Stamp) → what ≡ added.Made stamp → PutsOne k o key (Some b) called said v w what → AddsHeld k o key b called said v w what
+pub adds_made : (k : Shape) (o : ℕ) (key : Key) (b : Ref) (called : Call) (said : Reply) (v w : View) (what : Added) (stamp : Stamp) → what ≡ added.Made stamp → PutsOne k o key (Some b) called said v w what → AddsHeldKey k o key b called said v w what
 adds_made k o key b called said v w what stamp is x =
     let there = made_there k o key (Some b) _ _ called said x.0 w stamp (subst (λ (z : Added). IsPut k o key (Some b) (key_takes (known_state o v).content (known_state o v).table) (nat_lt (most_of (known_state o v).content) (length_of (known_state o v).content + 1)) called said x.0 w z) is x.2) in
     record { after = w; put = x; dropped = loaded_boxed w w (loaded_same w); boxes = there.boxes; names = λ any e. there.names b refl }
 
--- the pass has the cursors that it had
-pub put_cursors : (k : Shape) (o : ℕ) (key : Key) (boxed : Option Ref) (takes : Option ℕ) (over : Bool) (called : Call) (said : Reply) (v w : View) (what : Added) → IsPut k o key boxed takes over called said v w what → KeepsCursors v w
-put_cursors k o key boxed None over called said v w (added.Made stamp) x = λ number. x.2.wrote.pass.cursors number
-put_cursors k o key boxed (Some class) over called said v w (added.Made stamp) x =
-    let y = x.2 in
-    λ number. (retired_same (root_in (held_words (changes called) y.taken)) y.done w y.retired).cursors number ∙ (y.wrote.pass.cursors number ∙ y.tried.same.cursors number)
-put_cursors k o key boxed takes over called said v w (added.NoTable class stamp) x = added_cursors k takes over called said v w (added.NoTable class stamp) x
-put_cursors k o key boxed takes over called said v w (added.Over stamp) x = added_cursors k takes over called said v w (added.Over stamp) x
-put_cursors k o key boxed takes over called said v w (added.Moved a b) x = added_cursors k takes over called said v w (added.Moved a b) x
-
 -- ---- where it isn't made
 
--- the pass has the same references and boxes, and writes the same containers
-pub record Untouched (v w : View) : Type 0 where
-  pub shape : w.shape ≡ v.shape
-  pub references : SameReferences v w
-  pub made : SameMade v w
-  pub writes : (p : ℕ) → is_writing p w.log ≡ is_writing p v.log
-
-untouched_then : (u v w : View) → Untouched u v → Untouched v w → Untouched u w
-untouched_then u v w a b = record {
-  shape = b.shape ∙ a.shape;
-  references = λ c. b.references c ∙ a.references c;
-  made = record { state = λ c. b.made.state c ∙ a.made.state c; local = λ c. b.made.local c ∙ a.made.local c; taken = λ c. b.made.taken c ∙ a.made.taken c; places = λ c. b.made.places c ∙ a.made.places c; uses = λ c. b.made.uses c ∙ a.made.uses c };
-  writes = λ p. b.writes p ∙ a.writes p;
-}
-
-loaded_untouched : (v w : View) → OnlyLoaded v w → Untouched v w
-loaded_untouched v w l = record { shape = l.work.pass.shape; references = l.boxes.references; made = l.boxes.made; writes = l.work.pass.writes }
-
-tried_untouched : (k : Shape) (class : ℕ) (result : Took) (v w : View) → TriedTaking k class result v w → Untouched v w
-tried_untouched k class result v w t = record { shape = t.same.shape; references = t.keeps.boxes.references; made = t.keeps.boxes.made; writes = t.same.writes }
-
-answered_untouched : (called : Call) (said : Reply) (n : ℕ) (v w : View) → Answered called said n v w → Untouched v w
-answered_untouched called said n v w x =
-    untouched_then v x.before w (loaded_untouched v x.before x.loaded)
-    (subst (Untouched x.before) (sym x.answered) (record { shape = refl; references = λ c. refl; made = record { state = λ c. refl; local = λ c. refl; taken = λ c. refl; places = λ c. refl; uses = λ c. refl }; writes = λ p. refl }))
-
-put_untouched : (k : Shape) (o : ℕ) (key : Key) (boxed : Option Ref) (takes : Option ℕ) (over : Bool) (called : Call) (said : Reply) (v w : View) (what : Added) → ((stamp : Stamp) → what ≢ added.Made stamp) → IsPut k o key boxed takes over called said v w what → Untouched v w
-put_untouched k o key boxed takes over called said v w (added.Made stamp) ne x = absurd (ne stamp refl)
-put_untouched k o key boxed takes over called said v w (added.NoTable class stamp) ne x =
-    let y = x.3 in
-    untouched_then v y.0 w (tried_untouched k class _ v y.0 y.1) (answered_untouched called _ stamp.number y.0 w y.2)
-put_untouched k o key boxed takes over called said v w (added.Over stamp) ne x = answered_untouched called _ stamp.number v w x.2
-put_untouched k o key boxed takes over called said v w (added.Moved a b) ne x = tried_untouched k x.1.0 _ v w x.1.2
-
-pub puts_untouched : (k : Shape) (o : ℕ) (key : Key) (boxed : Option Ref) (called : Call) (said : Reply) (v w : View) (what : Added) → ((stamp : Stamp) → what ≢ added.Made stamp) → PutsOne k o key boxed called said v w what → Untouched v w
-puts_untouched k o key boxed called said v w what ne x = untouched_then v x.0 w (loaded_untouched v x.0 x.1) (put_untouched k o key boxed _ _ called said x.0 w what ne x.2)
+pub puts_untouched : (k : Shape) (o : ℕ) (key : Key) (boxed : Option Ref) (called : Call) (said : Reply) (v w : View) (what : Added) → (WasMade what → ⊥) → PutsOne k o key boxed called said v w what → Untouched v w
+puts_untouched k o key boxed called said v w what unmade x = untouched_then v x.0 w (loaded_untouched v x.0 x.1) (unmade_untouched (λ y z. KeyInBox k o key boxed z) k _ _ called said x.0 w what unmade x.2)
 
 module _ (k : Shape) (b : Ref) (stored : Stored) (v w : View) (shape : v.shape ≡ k) (holds : HoldsFor (Some b) stored v) (same : Untouched v w) where
   -- the box may be let go
@@ -201,3 +154,23 @@ module _ (k : Shape) (b : Ref) (stored : Stored) (v w : View) (shape : v.shape �
     where
       same_ref : (c : Ref) → Some b ≡ Some c → c ≡ b
       same_ref c is = sym (ap (λ (o : Option Ref). unwrap_or o b) is)
+
+-- the pass added the key so, and dropped the reference where the write wasn't made
+pub held_key : (k : Shape) (o : ℕ) (key : Key) (b : Ref) (stored : Stored) (called : Call) (said : Reply) (v w z : View) (what : Added) → v.shape ≡ k → z.shape ≡ k → HoldsFor (Some b) stored v → ((p : ℕ) → is_writing p v.log ≡ false) → PutsOne k o key (Some b) called said v w what → DropsUnmade b w z what → AddsHeldKey k o key b called said v z what
+held_key k o key b stored called said v w z what shape last holds even x drops = by what x drops
+  where
+    unmade : (that : Added) → is_made that ≡ false → PutsOne k o key (Some b) called said v w that → Drops b w z → AddsHeldKey k o key b called said v z that
+    unmade that not y d = record {
+      after = w;
+      put = y;
+      dropped = d.only;
+      boxes = done_let_go k b stored v w shape holds (puts_untouched k o key (Some b) called said v w that (not_made that not) y) z last even d.settled d.less d.places d.gone;
+      names = λ stamp made. not_made that not (stamp, made);
+    }
+
+    by : (that : Added) → PutsOne k o key (Some b) called said v w that → DropsUnmade b w z that → AddsHeldKey k o key b called said v z that
+    by (added.Made stamp) y d = subst (λ (r : View). AddsHeldKey k o key b called said v r (added.Made stamp)) (sym d) (adds_made k o key b called said v w (added.Made stamp) stamp refl y)
+    by (added.NoTable class stamp) y d = unmade (added.NoTable class stamp) refl y d
+    by (added.Over stamp) y d = unmade (added.Over stamp) refl y d
+    by (added.NoPlace stamp) y d = unmade (added.NoPlace stamp) refl y d
+    by (added.Moved first second) y d = unmade (added.Moved first second) refl y d

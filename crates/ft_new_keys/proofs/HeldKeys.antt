@@ -1,5 +1,5 @@
 -- A new key whose value is to stand in a box: what the pass has of the box until the entry names it, and then.
-use Rattle.std.proofs.Common.{◌≡◌, ◌≢◌, ℕ, suc, ◌+◌, ◌^◌, ◌<◌, ◌≤◌, eqb, cond, true≢false, Option, Some, None, refl, sym, ap, ◌∙◌, subst, arith, get_or-set_other}
+use Rattle.std.proofs.Common.{◌≡◌, ◌≢◌, ℕ, suc, ◌+◌, ◌<◌, ◌≤◌, true≢false, Option, Some, None, refl, sym, ap, ◌∙◌, subst, arith, get_or-set_other}
 use Rattle.std.specs.Prelude.{is_some}
 use Rattle.std.specs.Option.{unwrap_or}
 use mathlib.Core.Logic.{dite}

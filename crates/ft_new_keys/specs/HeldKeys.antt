@@ -1,5 +1,5 @@
 -- A new key of a dict whose value stands in a box: what the pass has of the box, and what its call comes to.
-use Rattle.std.specs.Prelude.{◌≡◌, ◌≢◌, ℕ, suc, ◌+◌, ◌<◌, ◌==◌, Bool, cond, true, false, nat_lt, Option, Some, None}
+use Rattle.std.specs.Prelude.{◌≡◌, ℕ, suc, ◌+◌, ◌<◌, ◌==◌, Bool, cond, true, false, nat_lt, Option, Some, None}
 use Rattle.ft_model.specs.declared.call.Call.{Call}
 use Rattle.ft_model.specs.declared.data.Key.{Key}
 use Rattle.ft_model.specs.declared.data.Value.{Value}
@@ -15,21 +15,18 @@ use Rattle.ft_trace.specs.declared.View.{View}
 use Rattle.ft_trace.specs.Acts.{is_writing, owes, stage, used, flight}
 use Rattle.ft_trace.specs.Addresses.{class_of}
 use Rattle.ft_trace.specs.Boxes.{place_use, references_held, use_taken, IsDoneWithBoxes, IsSettled}
-use Rattle.ft_trace.specs.ContainerStates.{changes}
-use Rattle.ft_trace.specs.Holds.{held_words, known_state}
-use Rattle.ft_trace.specs.Pictures.{root_in}
+use Rattle.ft_trace.specs.Holds.{known_state}
 use Rattle.ft_bank.specs.declared.table.Table.{Table}
-use Rattle.ft_bank.specs.declared.takings.Took.TheVariants as took
 use Rattle.ft_bank.specs.BoxSteps.{box_id, IsBoxIn}
 use Rattle.ft_bank.specs.TableNames.{table_id, IsTableIn}
-use Rattle.ft_bank.specs.Whole.{OnlyBoxed, OnlyLoaded, Wrote}
+use Rattle.ft_bank.specs.Whole.{OnlyBoxed, OnlyLoaded}
 use Rattle.ft_bank.specs.WriteSteps.{MayHave}
 use Rattle.ft_boxes.specs.References.{KnowsValue}
 use Rattle.ft_section.specs.declared.answers.Stamp.{Stamp}
 use Rattle.ft_search.specs.HeldValues.{NamesBoxAt}
 use Rattle.ft_table_calls.specs.declared.adding.Added.{Added}
 use Rattle.ft_table_calls.specs.declared.adding.Added.TheVariants as added
-use Rattle.ft_table_calls.specs.Adding.{IsAdded, Retires, TriedTaking}
+use Rattle.ft_table_calls.specs.Adding.{IsAddedWith}
 use Rattle.ft_new_keys.specs.KeyGrowth.{KnowsKeyed, key_takes, most_of}
 
 -- ---- the pass
@@ -83,41 +80,12 @@ pub record KeyInBox (k : Shape) (o : ℕ) (key : Key) (boxed : Option Ref) (v : 
   pub boxes : IsDoneWithBoxes k v.log
   pub names : (b : Ref) → boxed ≡ Some b → NamesBoxAt o key b v
 
--- The pass made the call as one whole write, which left the root of the container, and whose new key has its value in this
--- box, if there is one. (profile)
-pub record PutInPlace (k : Shape) (o : ℕ) (key : Key) (boxed : Option Ref) (called : Call) (said : Reply) (number : ℕ)
-    (v w : View) : Type 0 where
-  pub wrote : Wrote called said number v w
-  pub root : root_in (held_words (changes called) w) ≡ root_in (held_words (changes called) v)
-  pub there : KeyInBox k o key boxed w
-
--- The pass took a table of this class and made the call as one whole write that put it into the root of the container
--- in the place of another table or of none; its new key has its value in this box, if there is one. Then it retired the
--- table that the root named before. (profile)
-pub record PutInTaken (k : Shape) (o : ℕ) (key : Key) (boxed : Option Ref) (class : ℕ) (called : Call) (said : Reply)
-    (number : ℕ) (v w : View) : Type 0 where
-  pub table : Table
-  pub taken : View
-  pub tried : TriedTaking k class (took.Taken table) v taken
-  pub other : root_in (held_words (changes called) taken) ≢ suc (table_id table)
-  pub done : View
-  pub wrote : Wrote called said number taken done
-  pub root : root_in (held_words (changes called) done) ≡ suc (table_id table)
-  pub there : KeyInBox k o key boxed done
-  pub retired : Retires (root_in (held_words (changes called) taken)) done w
-
--- the write of such a call that takes no table, or one of this class
-abbrev pub PutWith : Shape → ℕ → Key → Option Ref → Option ℕ → Call → Reply → ℕ → View → View → Type 0
-PutWith k o key boxed None called said number v w = PutInPlace k o key boxed called said number v w
-PutWith k o key boxed (Some class) called said number v w = PutInTaken k o key boxed class called said number v w
-
 -- What a call comes to under the lock that adds this key, by the class of the table that the container takes, if it takes
--- one, and by whether it would have too many keys: the write was made, or it came to what it comes to where no box is
--- there.
+-- one, and by whether it would have too many keys: after the write the entry of the key names the box, if there is one.
+-- (profile)
 abbrev pub IsPut : Shape → ℕ → Key → Option Ref → Option ℕ → Bool → Call → Reply → View → View → Added → Type 0
-IsPut k o key boxed takes over called said v w (added.Made stamp) =
-    (over ≡ false) × (stamp.wrote ≡ true) × PutWith k o key boxed takes called said stamp.number v w
-IsPut k o key boxed takes over called said v w what = IsAdded k takes over called said v w what
+IsPut k o key boxed takes over called said v w what =
+    IsAddedWith (λ x y. KeyInBox k o key boxed y) k takes over called said v w what
 
 -- and after loads, by what the pass knows of the container
 abbrev pub PutsOne : Shape → ℕ → Key → Option Ref → Call → Reply → View → View → Added → Type 0
@@ -128,7 +96,7 @@ PutsOne k o key boxed called said v w what =
 
 -- Such a call whose value stands in this box came to that; where the write wasn't made, the pass dropped the reference for
 -- the box then. It is done with boxes, and the entry of the key names the box where the write was made.
-pub record AddsHeld (k : Shape) (o : ℕ) (key : Key) (b : Ref) (called : Call) (said : Reply) (v w : View)
+pub record AddsHeldKey (k : Shape) (o : ℕ) (key : Key) (b : Ref) (called : Call) (said : Reply) (v w : View)
     (what : Added) : Type 0 where
   pub after : View
   pub put : PutsOne k o key (Some b) called said v after what

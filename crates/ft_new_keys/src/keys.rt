@@ -1,6 +1,6 @@
 //! A key that isn't there is added to a dict or a set by a pass that has the lock: in the table that the
 //! container has, or in another one, or it isn't for want of a table.
-ghost use Rattle.std.specs.Prelude.{◌≡◌, ◌↔◌, IsTrue, ℕ, ◌+◌, ◌^◌, ◌<◌, ◌≤◌, nat_lt, false, Option, Some, None, IfSome};
+ghost use Rattle.std.specs.Prelude.{◌≡◌, ℕ, ◌+◌, ◌^◌, ◌<◌, ◌≤◌, nat_lt, false, Option, Some, None, IfSome};
 ghost use Rattle.ft_model.specs.declared.content.Content.{Content};
 ghost use Rattle.ft_model.specs.declared.script.Kind.TheVariants as kind;
 ghost use Rattle.ft_model.specs.Classes.{IsClass};
@@ -15,11 +15,9 @@ ghost use Rattle.ft_bank.specs.KeyHashes.{IsKeyIn};
 ghost use Rattle.ft_bank.specs.Passes.{shape_of, view, IsPassOf};
 ghost use Rattle.ft_bank.specs.PassSections.{stack_of};
 ghost use Rattle.ft_boxes.specs.References.{box_of};
-ghost use Rattle.ft_section.specs.declared.answers.Stamp.{Stamp};
-ghost use Rattle.ft_table_calls.specs.declared.adding.Added.TheVariants as added;
 ghost use Rattle.ft_search.specs.Held.{IsHeldAt};
 ghost use Rattle.ft_search.specs.Rounds.{kind_by};
-ghost use Rattle.ft_new_keys.specs.HeldKeys.{AddsHeld, HoldsFor, IsPut, MayPutKey, PutsInBox, PutsOne};
+ghost use Rattle.ft_new_keys.specs.HeldKeys.{AddsHeldKey, HoldsFor, IsPut, MayPutKey, PutsInBox, PutsOne};
 ghost use Rattle.ft_new_keys.specs.KeyGrowth.{AddsKey, AddsOne, IsFreeFor, MayAddKey, key_takes, keys_take, most_of, use_of};
 ghost use Rattle.ft_new_keys.specs.Placing.{AreCounts, StoresAs};
 
@@ -28,7 +26,7 @@ use crate::growth::add_in_new;
 use crate::naming::NewValue;
 use crate::room::add_in_room;
 use ft_bank::{Bank, Pass, Table, Took};
-use ft_boxes::{Held, keep, release, taken};
+use ft_boxes::{Held, keep};
 use ft_keys::Way;
 use ft_layout::{Stored, words_are_of_one_content};
 use ft_model::{
@@ -36,7 +34,7 @@ use ft_model::{
 };
 use ft_qsbr::take;
 use ft_section::Stamp;
-use ft_table_calls::{Added, answer_no_table, answer_over, retire_old};
+use ft_table_calls::{Added, answer_no_table, answer_over, drop_unmade, retire_old};
 
 /// How many keys a container has at most that is searched this way: as many as the largest table holds.
 pub fn most_keys(way: Way) -> u64
@@ -269,16 +267,6 @@ pub fn add_key(
     add_new(bank, pass, o, way, old, slot, key, value, called, said)
 }
 
-/// Whether the write was made.
-fn is_made(what: Added) -> bool
-    ensures { IsTrue result ↔ ((stamp : Stamp) × (what ≡ added.Made stamp)) }
-{
-    match what {
-        Added::Made(_) => true,
-        Added::NoTable(_, _) | Added::Over(_) | Added::Moved(_, _) => false,
-    }
-}
-
 /// Adds a key that isn't there to a dict whose lock the pass has, as [`add_key`] does, and has its value stand in a box for
 /// which the pass holds the one reference: the new entry names the box. Where the write isn't made the reference is dropped.
 /// `at` is the table that the root names and the slot there.
@@ -312,7 +300,7 @@ pub fn add_held(
     requires adds { AddsKey d called.now said.now key (Plain value) (view pass.old) }
     ensures pass { IsPassOf bank.now pass.new }
     ensures stack { stack_of pass.new ≡ stack_of pass.old }
-    ensures put { AddsHeld (shape_of bank.now) d key (box_of held) called.now said.now (view pass.old) (view pass.new)
+    ensures put { AddsHeldKey (shape_of bank.now) d key (box_of held) called.now said.now (view pass.old) (view pass.new)
         result }
 {
     let (old, slot) = at;
@@ -333,10 +321,6 @@ pub fn add_held(
         called,
         said,
     );
-    if is_made(added) {
-        return added;
-    }
-    let dropped = taken(bank, pass, b); // no entry names the box
-    release(bank, pass, dropped);
+    drop_unmade(bank, pass, b, added);
     added
 }

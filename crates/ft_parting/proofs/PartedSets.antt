@@ -191,4 +191,4 @@ parts_then k s t called v u w what only is =
 -- it leaves the cursors of its pass
 pub parts_cursors : (k : Shape) (s t : ℕ) (called : Call) (v w : View) (what : Added) → PartsBy k s t called v w what → KeepsCursors v w
 parts_cursors k s t called v w what x number =
-    added_cursors k (part_takes (known_state s v) (known_state t v).content) (passes_cap (content.Set (parted (known_state s v).content (known_state t v).content))) called reply.Done x.0 w what x.2 number ∙ x.1.work.pass.cursors number
+    added_cursors _ k (part_takes (known_state s v) (known_state t v).content) (passes_cap (content.Set (parted (known_state s v).content (known_state t v).content))) called reply.Done x.0 w what x.2 number ∙ x.1.work.pass.cursors number

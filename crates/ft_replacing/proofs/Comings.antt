@@ -22,12 +22,14 @@ pub replaced_cursors : (k : Shape) (takes : Option ℕ) (called : Call) (v w : V
 replaced_cursors k None called v w (added.Made stamp) x = λ number. given_cursors called reply.Done stamp.number x.1.0 w x.1.2 number ∙ x.1.1.work.pass.cursors number
 replaced_cursors k None called v w (added.NoTable class stamp) x = absurd x
 replaced_cursors k None called v w (added.Over stamp) x = absurd x
+replaced_cursors k None called v w (added.NoPlace stamp) x = absurd x
 replaced_cursors k None called v w (added.Moved a b) x = absurd x
-replaced_cursors k (Some class) called v w what x = λ number. added_cursors k (Some class) false called reply.Done x.0 w what x.2 number ∙ x.1.work.pass.cursors number
+replaced_cursors k (Some class) called v w what x = λ number. added_cursors _ k (Some class) false called reply.Done x.0 w what x.2 number ∙ x.1.work.pass.cursors number
 
 pub replaced_making : (b : Bank) (p q : Pass) → IsMaking b p → IsPassOf b q → stack_of q ≡ stack_of p → (k : Shape) (takes : Option ℕ) (called : Call) (what : Added) → LeavesSections called → IsReplaced k takes called (view p) (view q) what → IsMaking b q
 replaced_making b p q making pass stack k None called (added.Made stamp) leaves x = making_given b p q making pass stack x.1.0 x.1.1 called reply.Done stamp.number x.1.2
 replaced_making b p q making pass stack k None called (added.NoTable class stamp) leaves x = absurd x
 replaced_making b p q making pass stack k None called (added.Over stamp) leaves x = absurd x
+replaced_making b p q making pass stack k None called (added.NoPlace stamp) leaves x = absurd x
 replaced_making b p q making pass stack k None called (added.Moved first second) leaves x = absurd x
 replaced_making b p q making pass stack k (Some class) called what leaves x = making_added b p q making pass stack x.0 x.1 k (Some class) false called reply.Done what leaves x.2

@@ -63,7 +63,8 @@ pub record Walked (k : Shape) (o t : ℕ) (key : Key) (part : List Act) (left : 
 -- what these loads of the table t show of the key, once the root is read again and still names the table
 abbrev pub ClosesAt : Shape → ℕ → ℕ → Key → List Act → Looked → Type 0
 ClosesAt k o t key part (Here value_kind value n) =
-    ((w : View) → w.shape ≡ k → ∥ IsReachable w ∥₁ → LookUpWindow w.log o t part → ShowsHere k o key value_kind value n w.log)
+    ((w : View) → w.shape ≡ k → ∥ IsReachable w ∥₁ → LookUpWindow w.log o t part
+    → ShowsHere k o key value_kind value n w.log)
     × IsLastLoad n part
 ClosesAt k o t key part (Absent n) =
     ((log : List Act) → LookUpWindow log o t part → ShowsAbsent k o key n log) × IsLastLoad n part

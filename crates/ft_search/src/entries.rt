@@ -92,6 +92,7 @@ pub(crate) fn put_entry(
 }
 
 /// Raises the version of an entry by one, which makes it odd before the commit and even after it.
+#[inline(always)]
 pub fn raise_version(bank: &Bank, pass: &mut Pass, o: u32, table: Table, place: u64)
     requires pass { IsPassOf bank.now pass.old }
     requires writes { WritesEntries (shape_of bank.now) o table (view pass.old) }

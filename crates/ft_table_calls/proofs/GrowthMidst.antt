@@ -4,10 +4,10 @@ use mathlib.Core.Logic.{dite}
 use native.Mathlib.Decide.{ℕ_discrete}
 use Rattle.ft_model.specs.declared.call.Call.{Call}
 use Rattle.ft_model.specs.declared.reply.Reply.{Reply}
-use Rattle.ft_trace.specs.declared.Act.TheVariants.{PutRoot}
+use Rattle.ft_trace.specs.declared.Act.TheVariants.{Answer, PutRoot}
 use Rattle.ft_trace.specs.declared.Shape.{Shape}
 use Rattle.ft_trace.specs.declared.View.{View}
-use Rattle.ft_trace.specs.Acts.{has_lock, is_writing, stage, stage_next, owes, used, seen_writes}
+use Rattle.ft_trace.specs.Acts.{has_lock, is_writing, stage, stage_next, owes, used, flight, seen_writes, view_after}
 use Rattle.ft_trace.specs.Addresses.{container_count}
 use Rattle.ft_trace.specs.Boxes.{IsDoneWithBoxes}
 use Rattle.ft_trace.specs.Holds.{held_words, held_unboxed, known_state}
@@ -24,23 +24,61 @@ use Rattle.ft_bank.specs.PassSections.{stack_of}
 use Rattle.ft_bank.specs.TableNames.{table_id}
 use Rattle.ft_bank.specs.Locks.{KnowsSame}
 use Rattle.ft_bank.specs.SameBoxes.{SameReferences}
-use Rattle.ft_bank.specs.Whole.{OnlyLoaded, SamePass, Wrote, hand_after}
-use Rattle.ft_bank.proofs.KnownAfterWrites.{same_pass, pass_then}
+use Rattle.ft_bank.specs.Whole.{OnlyBoxed, OnlyLoaded, SamePass, Wrote, hand_after}
+use Rattle.ft_bank.proofs.KnownAfterWrites.{loaded_boxed, same_pass, pass_then, work_knows}
 use Rattle.ft_section.specs.Ready.{IsStill, IsMaking}
 use Rattle.ft_bank.proofs.DoneBoxes.{done_as, done_stays}
 use Rattle.ft_section.proofs.MidstOfCall.{making_stays}
 use Rattle.ft_search.proofs.ReadMidst.{LeavesSections, still_loaded, still_read, sections_read}
 use Rattle.ft_table_calls.specs.declared.adding.Added.{Added}
 use Rattle.ft_table_calls.specs.declared.adding.Added.TheVariants as added
-use Rattle.ft_table_calls.specs.Adding.{TriedTaking, Retires, WroteInPlace, Grew, GaveUp, IsAdded}
+use Rattle.ft_table_calls.specs.Adding.{TriedTaking, Retires, WroteInPlace, Grew, GaveUp, IsAdded, IsAddedWith}
 
 -- in no hand, or retired
 abbrev IsOut : ℕ → Type 0
 IsOut n = (n ≡ 0) ⊎ (n ≡ 4)
 
+-- ---- in the midst of nothing, whatever the pass has to do with boxes
+
+pub record IsCalm (v : View) : Type 0 where
+  pub even : (o : ℕ) → is_writing o v.log ≡ false
+  pub hands : (t : ℕ) → IsOut (stage t v.log)
+  pub used : used v.log ≡ false
+  pub owes : owes v.log ≡ 0
+  pub flight : flight v.log ≡ 0
+  pub stands : (o : ℕ) → o < container_count v.shape → has_lock o v.log ≡ true → Represents v.shape.texts (held_unboxed o v) (known_state o v)
+
+pub calm_of : (v : View) → IsStill v → IsCalm v
+calm_of v s = record { even = s.even; hands = s.hands; used = s.used; owes = s.owes; flight = s.flight; stands = s.stands }
+
+pub still_of : (v : View) → IsCalm v → IsDoneWithBoxes v.shape v.log → IsStill v
+still_of v s done = record { even = s.even; hands = s.hands; used = s.used; owes = s.owes; flight = s.flight; boxes = done; stands = s.stands }
+
+pub calm_boxed : (v w : View) → OnlyBoxed v w → IsCalm v → IsCalm w
+calm_boxed v w x s =
+    let work = x.work in
+    let pass = work.pass in
+    record {
+      even = λ o. pass.writes o ∙ s.even o;
+      hands = λ t. subst IsOut (sym (work.hands t)) (s.hands t);
+      used = work.used ∙ s.used;
+      owes = work.owes ∙ s.owes;
+      flight = pass.flight ∙ s.flight;
+      stands = λ o low has.
+          let low' : o < container_count v.shape = subst (λ (k : Shape). o < container_count k) pass.shape low in
+          let mine : has_lock o v.log ≡ true = sym (pass.locks o) ∙ has in
+          subst (λ (z : Shape × ContainerWords × ContainerState). Represents z.0.texts z.1 z.2) (λ d. (sym pass.shape d, sym (x.unboxed o low' mine) d, sym (work_knows v w o work) d)) (s.stands o low' mine);
+    }
+
+calm_entry : (called : Call) (said : Reply) (n : ℕ) (v : View) → IsCalm v → IsCalm (view_after (Answer called said n) v)
+calm_entry called said n v s = record { even = s.even; hands = s.hands; used = s.used; owes = s.owes; flight = s.flight; stands = s.stands }
+
+calm_answered : (called : Call) (said : Reply) (n : ℕ) (v w : View) → Answered called said n v w → IsCalm v → IsCalm w
+calm_answered called said n v w a s = subst IsCalm (sym a.answered) (calm_entry called said n a.before (calm_boxed v a.before (loaded_boxed v a.before a.loaded) s))
+
 -- ---- a whole write
 
-module _ (called : Call) (said : Reply) (n : ℕ) (v w : View) (s : IsStill v) (wrote : Wrote called said n v w) where
+module _ (called : Call) (said : Reply) (n : ℕ) (v w : View) (s : IsCalm v) (wrote : Wrote called said n v w) where
   abbrev o : ℕ
   o = changes called
 
@@ -56,26 +94,24 @@ module _ (called : Call) (said : Reply) (n : ℕ) (v w : View) (s : IsStill v) (
       let e = wrote.others p low' ne mine (s.even p) in
       subst (λ (x : ContainerWords × ContainerState). Represents v.shape.texts x.0 x.1) (λ d. (sym e.2 d, sym e.1 d)) (s.stands p low' mine)))
 
-  -- where the tables are in no hand that it leaves
-  wrote_still_so : IsDoneWithBoxes w.shape w.log → ((t : ℕ) → IsOut (stage t w.log)) → IsStill w
-  wrote_still_so boxes hands = record {
+  -- where it leaves the root
+  pub wrote_calm : root_in (held_words o w) ≡ root_in (held_words o v) → IsCalm w
+  wrote_calm root = record {
     even = λ p. wrote.pass.writes p ∙ s.even p;
-    hands = hands;
+    hands = λ t. subst IsOut (sym (wrote.hands t ∙ (ap (λ (z : ℕ). hand_after o (root_in (held_words o v)) z t (stage t v.log)) root ∙ hit (root_in (held_words o v)) (stage t v.log) _))) (s.hands t);
     used = wrote.used;
     owes = wrote.owes;
     flight = wrote.pass.flight ∙ s.flight;
-    boxes = boxes;
     stands = stands_after;
   }
 
-  pub wrote_still : root_in (held_words o w) ≡ root_in (held_words o v) → SameReferences v w → IsStill w
-  wrote_still root references =
-      wrote_still_so (done_stays v w wrote.made (λ b. references b ∙ s.boxes.none b) s.boxes)
-      (λ t. subst IsOut (sym (wrote.hands t ∙ (ap (λ (z : ℕ). hand_after o (root_in (held_words o v)) z t (stage t v.log)) root ∙ hit (root_in (held_words o v)) (stage t v.log) _))) (s.hands t))
+pub wrote_still : (called : Call) (said : Reply) (n : ℕ) (v w : View) → IsStill v → (wrote : Wrote called said n v w) → root_in (held_words (changes called) w) ≡ root_in (held_words (changes called) v) → SameReferences v w → IsStill w
+wrote_still called said n v w s wrote root references =
+    still_of w (wrote_calm called said n v w (calm_of v s) wrote root) (done_stays v w wrote.made (λ b. references b ∙ s.boxes.none b) s.boxes)
 
 -- ---- takings
 
-module _ (k : Shape) (class : ℕ) (r : Took) (v w : View) (s : IsStill v) (tried : TriedTaking k class r v w) where
+module _ (k : Shape) (class : ℕ) (r : Took) (v w : View) (s : IsCalm v) (tried : TriedTaking k class r v w) where
   pub tried_out : (t : ℕ) → (stage t w.log ≡ stage t v.log) ⊎ (stage t w.log ≡ 0) → IsOut (stage t w.log)
   tried_out t either = ⊎_elim (λ (e : stage t w.log ≡ stage t v.log). subst IsOut (sym e) (s.hands t)) (λ (e : stage t w.log ≡ 0). inl e) either
 
@@ -89,16 +125,18 @@ module _ (k : Shape) (class : ℕ) (r : Took) (v w : View) (s : IsStill v) (trie
       (subst (λ (x : ContainerWords × ContainerState). Represents v.shape.texts x.0 x.1) (λ d. (sym e.2 d, sym e.1 d)) (s.stands p low' mine))
 
   -- a taking that has no table
-  pub tried_still : ((t : ℕ) → IsOut (stage t w.log)) → owes w.log ≡ 0 → IsStill w
-  tried_still hands none = record {
+  pub tried_calm : ((t : ℕ) → IsOut (stage t w.log)) → owes w.log ≡ 0 → IsCalm w
+  tried_calm hands none = record {
     even = λ p. tried.same.writes p ∙ s.even p;
     hands = hands;
     used = tried.keeps.held.used ∙ s.used;
     owes = none;
     flight = tried.same.flight ∙ s.flight;
-    boxes = done_as v w tried.keeps.boxes.references tried.keeps.boxes.made s.boxes;
     stands = tried_stands;
   }
+
+tried_still : (k : Shape) (class : ℕ) (r : Took) (v w : View) → IsStill v → (tried : TriedTaking k class r v w) → ((t : ℕ) → IsOut (stage t w.log)) → owes w.log ≡ 0 → IsStill w
+tried_still k class r v w s tried hands none = still_of w (tried_calm k class r v w (calm_of v s) tried hands none) (done_as v w tried.keeps.boxes.references tried.keeps.boxes.made s.boxes)
 
 -- ---- retirements
 
@@ -135,7 +173,7 @@ retired_stage (suc q) v w is t = (
 
 -- ---- a call that took a table
 
-module _ (k : Shape) (class : ℕ) (called : Call) (said : Reply) (n : ℕ) (v w : View) (s : IsStill v) (grew : Grew k class called said n v w) where
+module _ (R : View → View → Type 0) (k : Shape) (class : ℕ) (called : Call) (said : Reply) (n : ℕ) (v w : View) (s : IsCalm v) (grew : Grew R k class called said n v w) where
   abbrev at : ℕ
   at = changes called
 
@@ -190,19 +228,23 @@ module _ (k : Shape) (class : ℕ) (called : Call) (said : Reply) (n : ℕ) (v w
   pub grew_same : SamePass v w
   grew_same = pass_then v taken w grew.tried.same (pass_then taken grew.done w grew.wrote.pass (retired_same old grew.done w grew.retired))
 
-  pub grew_still : IsStill w
-  grew_still =
+  pub grew_calm : IsCalm w
+  grew_calm =
       let r = retired_work old grew.done w grew.retired in
-      let boxes : IsDoneWithBoxes taken.shape taken.log = done_as v taken grew.tried.keeps.boxes.references grew.tried.keeps.boxes.made s.boxes in
       record {
         even = λ p. grew_same.writes p ∙ s.even p;
         hands = out_after;
         used = r.0 ∙ grew.wrote.used;
         owes = r.1 ∙ grew.wrote.owes;
         flight = grew_same.flight ∙ s.flight;
-        boxes = retired_done old grew.done w grew.retired (done_stays taken grew.done grew.wrote.made (λ b. grew.references b ∙ boxes.none b) boxes);
         stands = stands_written;
       }
+
+grew_still : (k : Shape) (class : ℕ) (called : Call) (said : Reply) (n : ℕ) (v w : View) → IsStill v → Grew SameReferences k class called said n v w → IsStill w
+grew_still k class called said n v w s g =
+    let boxes : IsDoneWithBoxes g.taken.shape g.taken.log = done_as v g.taken g.tried.keeps.boxes.references g.tried.keeps.boxes.made s.boxes in
+    still_of w (grew_calm SameReferences k class called said n v w (calm_of v s) g)
+    (retired_done (root_in (held_words (changes called) g.taken)) g.done w g.retired (done_stays g.taken g.done g.wrote.made (λ b. g.references b ∙ boxes.none b) boxes))
 
 -- ---- the call
 
@@ -217,7 +259,7 @@ module _ (b : Bank) (p q : Pass) (m : IsMaking b p) (pass : IsPassOf b q) (stack
       making_stays b p q m pass stack (same.shape ∙ l.shape) (λ o. same.locks o ∙ l.locks o) (same.begun ∙ l.begun) still
 
   -- a pass that made a whole write and left the root
-  pub making_wrote : (called : Call) (said : Reply) (n : ℕ) → WroteInPlace called said n u (view q) → IsMaking b q
+  pub making_wrote : (called : Call) (said : Reply) (n : ℕ) → WroteInPlace SameReferences called said n u (view q) → IsMaking b q
   making_wrote called said n x = making_same x.wrote.pass (wrote_still called said n u (view q) still_then x.wrote x.root x.references)
 
   -- an entry that isn't a write, after steps that leave the pass
@@ -230,15 +272,68 @@ module _ (b : Bank) (p q : Pass) (m : IsMaking b p) (pass : IsPassOf b q) (stack
   pub making_added : (k : Shape) (takes : Option ℕ) (over : Bool) (called : Call) (said : Reply) (what : Added) → LeavesSections called → IsAdded k takes over called said u (view q) what → IsMaking b q
   making_added k None over called said (added.Made stamp) leaves x = making_wrote called said stamp.number x.2
   making_added k (Some class) over called said (added.Made stamp) leaves x =
-      making_same (grew_same k class called said stamp.number u (view q) still_then x.2) (grew_still k class called said stamp.number u (view q) still_then x.2)
+      making_same (grew_same SameReferences k class called said stamp.number u (view q) (calm_of u still_then) x.2) (grew_still k class called said stamp.number u (view q) still_then x.2)
   making_added k takes over called said (added.NoTable class stamp) leaves x =
       let y = x.3 in
-      let none : IsStill y.0 = tried_still k class took.AllTaken u y.0 still_then y.1 (λ t. tried_out k class took.AllTaken u y.0 still_then y.1 t (y.1.hands t tt)) y.1.has in
+      let none : IsStill y.0 = tried_still k class took.AllTaken u y.0 still_then y.1 (λ t. tried_out k class took.AllTaken u y.0 (calm_of u still_then) y.1 t (y.1.hands t tt)) y.1.has in
       making_answered called _ stamp.number y.0 leaves y.1.same none y.2
   making_added k takes over called said (added.Over stamp) leaves x = making_answered called _ stamp.number u leaves (same_pass u) still_then x.2
+  making_added k takes over called said (added.NoPlace stamp) leaves x = absurd x
   making_added k takes over called said (added.Moved a b') leaves x =
       let y = x.1 in
-      making_same y.2.same (tried_still k y.0 (took.Moved a b') u (view q) still_then y.2 (λ t. tried_out k y.0 (took.Moved a b') u (view q) still_then y.2 t (y.2.hands t tt)) y.2.has)
+      making_same y.2.same (tried_still k y.0 (took.Moved a b') u (view q) still_then y.2 (λ t. tried_out k y.0 (took.Moved a b') u (view q) (calm_of u still_then) y.2 t (y.2.hands t tt)) y.2.has)
+
+-- ---- a call that stores a value in a box
+
+-- it has taken steps with boxes, and was at x then; and such after the call
+module _ (b : Bank) (p q : Pass) (m : IsMaking b p) (pass : IsPassOf b q) (stack : stack_of q ≡ stack_of p) (x y : View) (before : OnlyBoxed (view p) x) (after : OnlyBoxed y (view q)) (done : IsDoneWithBoxes (view q).shape (view q).log) where
+  calm_then : IsCalm x
+  calm_then = calm_boxed (view p) x before (calm_of (view p) m.inside.1.still)
+
+  boxed_making : SamePass x y → IsCalm y → IsMaking b q
+  boxed_making same calm =
+      let first = before.work.pass in
+      let last = after.work.pass in
+      making_stays b p q m pass stack (last.shape ∙ (same.shape ∙ first.shape)) (λ o. last.locks o ∙ (same.locks o ∙ first.locks o)) (last.begun ∙ (same.begun ∙ first.begun)) (still_of (view q) (calm_boxed y (view q) after calm) done)
+
+  -- an entry that isn't a write, after steps that leave the pass
+  boxed_answered : (called : Call) (said : Reply) (n : ℕ) (z : View) → LeavesSections called → SamePass x z → IsCalm z → Answered called said n z y → IsMaking b q
+  boxed_answered called said n z leaves same calm a =
+      let first = before.work.pass in
+      let last = after.work.pass in
+      let r = sections_read called said n z y leaves a in
+      making_stays b p q m pass stack (last.shape ∙ (r.0 ∙ (same.shape ∙ first.shape))) (λ o. last.locks o ∙ (r.1 o ∙ (same.locks o ∙ first.locks o))) (last.begun ∙ (r.2 ∙ (same.begun ∙ first.begun)))
+      (still_of (view q) (calm_boxed y (view q) after (calm_answered called said n z y a calm)) done)
+
+  pub making_into : (R : View → View → Type 0) (k : Shape) (takes : Option ℕ) (over : Bool) (called : Call) (said : Reply) (what : Added) → LeavesSections called → IsAddedWith R k takes over called said x y what → IsMaking b q
+  making_into R k None over called said (added.Made stamp) leaves z = boxed_making z.2.wrote.pass (wrote_calm called said stamp.number x y calm_then z.2.wrote z.2.root)
+  making_into R k (Some class) over called said (added.Made stamp) leaves z = boxed_making (grew_same R k class called said stamp.number x y calm_then z.2) (grew_calm R k class called said stamp.number x y calm_then z.2)
+  making_into R k takes over called said (added.NoTable class stamp) leaves z =
+      let t = z.3 in
+      let none : IsCalm t.0 = tried_calm k class took.AllTaken x t.0 calm_then t.1 (λ n. tried_out k class took.AllTaken x t.0 calm_then t.1 n (t.1.hands n tt)) t.1.has in
+      boxed_answered called _ stamp.number t.0 leaves t.1.same none t.2
+  making_into R k takes over called said (added.Over stamp) leaves z = boxed_answered called _ stamp.number x leaves (same_pass x) calm_then z.2
+  making_into R k takes over called said (added.NoPlace stamp) leaves z = absurd z
+  making_into R k takes over called said (added.Moved a b') leaves z =
+      let t = z.1 in
+      boxed_making t.2.same (tried_calm k t.0 (took.Moved a b') x y calm_then t.2 (λ n. tried_out k t.0 (took.Moved a b') x y calm_then t.2 n (t.2.hands n tt)) t.2.has)
+
+  -- an entry that isn't a write
+  pub making_read_boxed : (called : Call) (said : Reply) (n : ℕ) → LeavesSections called → Answered called said n x y → IsMaking b q
+  making_read_boxed called said n leaves a = boxed_answered called said n x leaves (same_pass x) calm_then a
+
+  -- a write after which no other table is in hand
+  pub making_wrote_boxed : (called : Call) (said : Reply) (n : ℕ) → Wrote called said n x y → ((t : ℕ) → stage t y.log ≡ stage t x.log) → IsMaking b q
+  making_wrote_boxed called said n wrote hands =
+      boxed_making wrote.pass
+      (record {
+        even = λ o. wrote.pass.writes o ∙ calm_then.even o;
+        hands = λ t. subst IsOut (sym (hands t)) (calm_then.hands t);
+        used = wrote.used;
+        owes = wrote.owes;
+        flight = wrote.pass.flight ∙ calm_then.flight;
+        stands = stands_after called said n x y calm_then wrote;
+      })
 
 -- ---- a call that gives up a table
 
@@ -281,7 +376,7 @@ module _ (called : Call) (said : Reply) (n : ℕ) (v w : View) (s : IsStill v) (
         boxes = retired_done before given.done w given.retired (done_stays v given.done given.wrote.made (λ b. given.references b ∙ s.boxes.none b) s.boxes);
         stands = λ p low has.
             let e = retired_knows before given.done w given.retired p in
-            let old = stands_after called said n v given.done s given.wrote p (subst (λ (z : Shape). p < container_count z) same.shape low) (sym (same.locks p) ∙ has) in
+            let old = stands_after called said n v given.done (calm_of v s) given.wrote p (subst (λ (z : Shape). p < container_count z) same.shape low) (sym (same.locks p) ∙ has) in
             subst (λ (x : Shape × ContainerWords × ContainerState). Represents x.0.texts x.1 x.2) (λ d. (sym same.shape d, sym e.2 d, sym e.1 d)) old;
       }
 

@@ -5,3 +5,5 @@ pub mod GrowthMidst
 pub mod Dropped
 pub mod PlainTables
 pub mod TriedCalls
+pub mod FullHeaps
+pub mod Unmade

@@ -1,5 +1,5 @@
 -- MemoryErrors, at a load of the counter.
-use Rattle.std.proofs.Common.{◌≡◌, ℕ, ◌<◌, ◌≤◌, true, false, List, [], ◌∷◌, refl}
+use Rattle.std.proofs.Common.{◌≡◌, ℕ, ◌<◌, ◌≤◌, true, false, List, [], ◌∷◌, refl, ap}
 use Rattle.std.specs.Prelude.{Some}
 use Rattle.ft_model.specs.declared.call.Call.{Call}
 use Rattle.ft_model.specs.declared.reply.Reply.{Reply}
@@ -10,11 +10,12 @@ use Rattle.ft_trace.specs.declared.Act.{Act}
 use Rattle.ft_trace.specs.declared.Act.TheVariants.{ReadCounter, ReadCount, Answer}
 use Rattle.ft_trace.specs.declared.View.{View}
 use Rattle.ft_trace.specs.Acts.{view_after, owes, shown}
+use Rattle.ft_trace.specs.Causes.{CanLackPlace, HeapIsFull}
 use Rattle.ft_trace.specs.Traces.{IsReachable}
 use Rattle.ft_bank.specs.Answered.{Answered}
 use Rattle.ft_bank.specs.Reads.{IsShown}
 use Rattle.ft_bank.specs.WriteSteps.{MayHave}
-use Rattle.ft_bank.proofs.ShownReplies.{memory_errors_are_shown, overs_are_shown}
+use Rattle.ft_bank.proofs.ShownReplies.{heap_errors_are_shown, memory_errors_are_shown, overs_are_shown}
 use Rattle.ft_bank.proofs.BoxedSteps.{boxes_same}
 use Rattle.ft_bank.proofs.KnownAfterWrites.{same_work}
 use Rattle.ft_search.proofs.Asking.{answered_locked}
@@ -47,3 +48,19 @@ module _ (v : View) (n : ℕ) where
       overs_are_shown after called n
       (record { left = left; newer = []; rest = v.log; is = refl; own = tt; locks = tt })
       (λ stored has. over stored (has_before stored has))
+
+  -- a load of the counter leaves it that the heap was found full
+  full_on : HeapIsFull v.shape v.number v.log → HeapIsFull v.shape v.number after.log
+  full_on full = record {
+    words = λ w low. let f = full.words w low in record { newer = ReadCounter n ∷ f.newer; rest = f.rest; is = ap (λ (l : List Act). ReadCounter n ∷ l) f.is; own = f.own; kept = f.kept };
+    untaken = full.untaken;
+  }
+
+  pub full_shown : (called : Call) → 0 < v.left → HeapIsFull v.shape v.number v.log
+      → ((stored : StoredWorld) → MayHave v stored → CanLackPlace stored.world called × (would_pass stored.world called ≡ false))
+      → IsShown after called (reply.Raised raise.Heap) n
+  full_shown called left full lacks =
+      heap_errors_are_shown after called n
+      (record { left = left; newer = []; rest = v.log; is = refl; own = tt; locks = tt })
+      (full_on full)
+      (λ stored has. lacks stored (has_before stored has))

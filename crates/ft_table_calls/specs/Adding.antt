@@ -9,6 +9,7 @@ use Rattle.ft_trace.specs.declared.Act.TheVariants.{PutHeader, Retire}
 use Rattle.ft_trace.specs.declared.Shape.{Shape}
 use Rattle.ft_trace.specs.declared.View.{View}
 use Rattle.ft_trace.specs.Acts.{has_goal, view_after}
+use Rattle.ft_trace.specs.Causes.{HeapIsFull}
 use Rattle.ft_trace.specs.Hands.{cursor_in}
 use Rattle.ft_trace.specs.Holds.{held_words}
 use Rattle.ft_trace.specs.Pictures.{root_in}
@@ -21,8 +22,9 @@ use Rattle.ft_bank.specs.SameBoxes.{SameReferences, SameMade}
 use Rattle.ft_bank.specs.Series.{noted_all}
 use Rattle.ft_bank.specs.TableNames.{table_id}
 use Rattle.ft_bank.specs.Takings.{HasNotMoved, HasTook, IsTaking, KeepsBut, StaysIn}
-use Rattle.ft_bank.specs.Whole.{SamePass, SameWork, Wrote}
+use Rattle.ft_bank.specs.Whole.{OnlyBoxed, SamePass, SameWork, Wrote}
 use Rattle.ft_bank.specs.WriteSteps.{KeepsUnwritten}
+use Rattle.ft_section.specs.declared.answers.Stamp.{Stamp}
 use Rattle.ft_qsbr.specs.Collecting.{Collected, StaysOrGoes}
 use Rattle.ft_table_calls.specs.declared.adding.Added.{Added}
 use Rattle.ft_table_calls.specs.declared.adding.Added.TheVariants as added
@@ -64,17 +66,21 @@ KeepsCursors v w = (number : ℕ) → cursor_in number w.log ≡ cursor_in numbe
 
 -- ---- the call
 
--- The pass made the call as one whole write, which left the root of the container, and holds the same references of
--- boxes as before. (profile)
-pub record WroteInPlace (called : Call) (said : Reply) (number : ℕ) (v w : View) : Type 0 where
+-- The pass made the call as one whole write, which left the root of the container, and which did this to references of
+-- boxes. (profile)
+pub record WroteInPlace
+    (R : View → View → Type 0) (called : Call) (said : Reply) (number : ℕ) (v w : View)
+    : Type 0 where
   pub wrote : Wrote called said number v w
   pub root : root_in (held_words (changes called) w) ≡ root_in (held_words (changes called) v)
-  pub references : SameReferences v w
+  pub references : R v w
 
 -- The pass took a table of this class and made the call as one whole write that put it into the root of the container
--- in the place of another table or of none, and holds the same references of boxes as before; then it retired the table
--- that the root named before. (profile)
-pub record Grew (k : Shape) (class : ℕ) (called : Call) (said : Reply) (number : ℕ) (v w : View) : Type 0 where
+-- in the place of another table or of none, and which did this to references of boxes; then it retired the table that
+-- the root named before. (profile)
+pub record Grew
+    (R : View → View → Type 0) (k : Shape) (class : ℕ) (called : Call) (said : Reply) (number : ℕ) (v w : View)
+    : Type 0 where
   pub table : Table
   pub taken : View
   pub tried : TriedTaking k class (took.Taken table) v taken
@@ -82,7 +88,7 @@ pub record Grew (k : Shape) (class : ℕ) (called : Call) (said : Reply) (number
   pub done : View
   pub wrote : Wrote called said number taken done
   pub root : root_in (held_words (changes called) done) ≡ suc (table_id table)
-  pub references : SameReferences taken done
+  pub references : R taken done
   pub retired : Retires (root_in (held_words (changes called) taken)) done w
 
 -- The pass made the call as one whole write that left the container no table, and holds the same references of boxes as
@@ -95,21 +101,42 @@ pub record GaveUp (called : Call) (said : Reply) (number : ℕ) (v w : View) : T
   pub retired : Retires (root_in (held_words (changes called) v)) done w
 
 -- the write of a call that takes no table, or one of this class
-abbrev pub WroteWith : Shape → Option ℕ → Call → Reply → ℕ → View → View → Type 0
-WroteWith k None called said number v w = WroteInPlace called said number v w
-WroteWith k (Some class) called said number v w = Grew k class called said number v w
+abbrev pub WroteWith : (View → View → Type 0) → Shape → Option ℕ → Call → Reply → ℕ → View → View → Type 0
+WroteWith R k None called said number v w = WroteInPlace R called said number v w
+WroteWith R k (Some class) called said number v w = Grew R k class called said number v w
 
 -- What a call comes to under its locks that takes no table or one of this class, and that would leave more than the
--- largest table holds or not. It was made as a write with this reply. Or the count of its class was 0 at the one load
--- of this call. Or it would leave too much. Or tables of its class were taken or given by others meanwhile.
-abbrev pub IsAdded : Shape → Option ℕ → Bool → Call → Reply → View → View → Added → Type 0
-IsAdded k takes over called said v w (added.Made stamp) =
-    (over ≡ false) × (stamp.wrote ≡ true) × WroteWith k takes called said stamp.number v w
-IsAdded k takes over called said v w (added.NoTable class stamp) =
+-- largest table holds or not. It was made as a write with this reply, which did this to references of boxes. Or the count
+-- of its class was 0 at the one load of this call. Or it would leave too much. Or tables of its class were taken or given
+-- by others meanwhile. It takes no place of a heap.
+abbrev pub IsAddedWith
+    : (View → View → Type 0) → Shape → Option ℕ → Bool → Call → Reply → View → View → Added → Type 0
+IsAddedWith R k takes over called said v w (added.Made stamp) =
+    (over ≡ false) × (stamp.wrote ≡ true) × WroteWith R k takes called said stamp.number v w
+IsAddedWith R k takes over called said v w (added.NoTable class stamp) =
     (over ≡ false) × (stamp.wrote ≡ false) × (takes ≡ Some class)
     × ((u : View) × TriedTaking k class took.AllTaken v u
     × Answered called (reply.Raised (raise.Memory class)) stamp.number u w)
-IsAdded k takes over called said v w (added.Over stamp) =
+IsAddedWith R k takes over called said v w (added.Over stamp) =
     (over ≡ true) × (stamp.wrote ≡ false) × Answered called (reply.Raised raise.Over) stamp.number v w
-IsAdded k takes over called said v w (added.Moved a b) =
+IsAddedWith R k takes over called said v w (added.NoPlace stamp) = ⊥
+IsAddedWith R k takes over called said v w (added.Moved a b) =
     (over ≡ false) × ((class : ℕ) × (takes ≡ Some class) × TriedTaking k class (took.Moved a b) v w)
+
+-- the same of a write after which the pass holds the same references of boxes as before
+abbrev pub IsAdded : Shape → Option ℕ → Bool → Call → Reply → View → View → Added → Type 0
+IsAdded k takes over called said v w what = IsAddedWith SameReferences k takes over called said v w what
+
+-- The pass has taken steps with boxes and found its own heap full, so the call was answered a MemoryError of the heap.
+-- (profile)
+pub record AnsweredFull (called : Call) (said : Reply) (stamp : Stamp) (v w : View) : Type 0 where
+  pub said_is : said ≡ reply.Raised raise.Heap
+  pub unwritten : stamp.wrote ≡ false
+  pub before : View
+  pub boxed : OnlyBoxed v before
+  pub full : HeapIsFull before.shape before.number before.log
+  pub answered : Answered called said stamp.number before w
+
+-- the call was made
+abbrev pub WasMade : Added → Type 0
+WasMade what = (stamp : Stamp) × (what ≡ added.Made stamp)

@@ -88,6 +88,7 @@ abbrev pub made_after : Added → Reply → Made
 made_after (added.Made stamp) said = made.Done said stamp
 made_after (added.NoTable class stamp) said = made.Done (reply.Raised (raise.Memory class)) stamp
 made_after (added.Over stamp) said = made.Done (reply.Raised raise.Over) stamp
+made_after (added.NoPlace stamp) said = made.Done (reply.Raised raise.Heap) stamp
 made_after (added.Moved a b) said = made.Moved a b
 
 -- It came to F, and replies so where it is made; the cursors stay.

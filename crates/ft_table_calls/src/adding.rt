@@ -6,6 +6,7 @@ ghost use Rattle.ft_model.specs.declared.reply.Reply.TheVariants as reply;
 ghost use Rattle.ft_trace.specs.declared.Act.{Act};
 ghost use Rattle.ft_trace.specs.declared.Act.TheVariants.{ReadCount};
 ghost use Rattle.ft_trace.specs.Acts.{owes};
+ghost use Rattle.ft_trace.specs.Causes.{CanLackPlace, HeapIsFull};
 ghost use Rattle.ft_bank.specs.Answered.{Answered};
 ghost use Rattle.ft_bank.specs.Passes.{view, IsPassOf};
 ghost use Rattle.ft_bank.specs.PassSections.{stack_of};
@@ -25,6 +26,8 @@ pub enum Added {
     NoTable(u32, Stamp),
     /// The container would have more than the largest table holds: the entry of a MemoryError, with this stamp.
     Over(Stamp),
+    /// No place of the pass's heap was free: the entry of a MemoryError, with this stamp.
+    NoPlace(Stamp),
     /// Other passes took or gave tables of the class meanwhile: a word was the first number and then the
     /// second. The same call comes next.
     Moved(u64, u64),
@@ -41,6 +44,7 @@ impl Added {
             Added::Made(stamp) => Added::Made(stamp),
             Added::NoTable(class, stamp) => Added::NoTable(class, stamp),
             Added::Over(stamp) => Added::Over(stamp),
+            Added::NoPlace(stamp) => Added::NoPlace(stamp),
             Added::Moved(first, second) => Added::Moved(first, second),
         }
     }
@@ -77,6 +81,24 @@ pub fn answer_over(bank: &Bank, pass: &mut Pass, called: &Call) -> Stamp
     ensures answered { Answered called.now (reply.Raised raise.Over) result.number (view pass.old) (view pass.new) }
 {
     let said = Reply::Raised(Raise::Over);
+    let (_, stamp) = answer_held(bank, pass, called, said);
+    stamp
+}
+
+/// Raises a MemoryError of a heap in the place of a call that would put a value in a box, by a pass that found its own
+/// heap full just now: its entry, at a load of the counter.
+pub fn answer_full(bank: &Bank, pass: &mut Pass, called: &Call) -> Stamp
+    requires pass { IsPassOf bank.now pass.old }
+    requires left { 0 < (view pass.old).left }
+    requires full { HeapIsFull (view pass.old).shape (view pass.old).number (view pass.old).log }
+    requires lacks { (stored : StoredWorld) → MayHave (view pass.old) stored → CanLackPlace stored.world called.now
+        × (would_pass stored.world called.now ≡ false) }
+    ensures pass { IsPassOf bank.now pass.new }
+    ensures stack { stack_of pass.new ≡ stack_of pass.old }
+    ensures wrote { result.wrote ≡ false }
+    ensures answered { Answered called.now (reply.Raised raise.Heap) result.number (view pass.old) (view pass.new) }
+{
+    let said = Reply::Raised(Raise::Heap);
     let (_, stamp) = answer_held(bank, pass, called, said);
     stamp
 }

@@ -12,10 +12,14 @@ ghost use Rattle.ft_bank.specs.PassSections.{stack_of};
 ghost use Rattle.ft_bank.specs.SameBoxes.{StaysSettled};
 ghost use Rattle.ft_bank.specs.TableNames.{table_id, IsPlaceOf, IsTableIn};
 ghost use Rattle.ft_bank.specs.Whole.{OnlyBoxed};
-ghost use Rattle.ft_boxes.specs.References.{KeepsValues};
-ghost use Rattle.ft_table_calls.specs.Dropping.{AreValuePlaces, HoldsNamed};
+ghost use Rattle.ft_boxes.specs.References.{HoldsBox, KeepsValues};
+ghost use Rattle.ft_table_calls.specs.Adding.{WasMade};
+ghost use Rattle.ft_table_calls.specs.Dropping.{AreValuePlaces, DropsUnmade, HoldsNamed};
 
+use crate::adding::Added;
 use ft_bank::{Bank, Pass, Table};
+use ft_boxes::taken;
+use ft_layout::Ref;
 use ft_search::release;
 use ft_section::Object;
 
@@ -86,5 +90,22 @@ pub fn drop_values(bank: &Bank, pass: &mut Pass, o: Object, table: Table, places
     for row in 0..places.rows {
         let word = places.first + places.step * row;
         drop_value(bank, pass, table, start, word);
+    }
+}
+
+/// Drops the reference for a box that a call was to store, where the call wasn't made.
+pub fn drop_unmade(bank: &Bank, pass: &mut Pass, at: Ref, added: Added)
+    requires pass { IsPassOf bank.now pass.old }
+    requires held { ¬ WasMade added → HoldsBox at (view pass.old) × IsSettled (view pass.old).log }
+    ensures pass { IsPassOf bank.now pass.new }
+    ensures stack { stack_of pass.new ≡ stack_of pass.old }
+    ensures drops { DropsUnmade at (view pass.old) (view pass.new) added }
+{
+    match added {
+        Added::Made(_) => {}
+        Added::NoTable(_, _) | Added::Over(_) | Added::NoPlace(_) | Added::Moved(_, _) => {
+            let held = taken(bank, pass, at);
+            ft_boxes::release(bank, pass, held);
+        }
     }
 }

@@ -15,8 +15,8 @@ mod made;
 mod retiring;
 mod under_locks;
 
-pub use crate::adding::{Added, answer_no_table, answer_over};
-pub use crate::dropping::{ValuePlaces, drop_value, drop_values};
+pub use crate::adding::{Added, answer_full, answer_no_table, answer_over};
+pub use crate::dropping::{ValuePlaces, drop_unmade, drop_value, drop_values};
 pub use crate::made::Made;
 pub use crate::retiring::retire_old;
 pub use crate::under_locks::{Maker, named_objects, try_under_locks};

@@ -39,6 +39,7 @@ impl Made {
             Added::Made(stamp) => Made::Done(said, stamp),
             Added::NoTable(class, stamp) => Made::Done(Reply::Raised(Raise::Memory(class)), stamp),
             Added::Over(stamp) => Made::Done(Reply::Raised(Raise::Over), stamp),
+            Added::NoPlace(stamp) => Made::Done(Reply::Raised(Raise::Heap), stamp),
             Added::Moved(first, second) => Made::Moved(first, second),
         }
     }

@@ -2,9 +2,11 @@
 use Rattle.std.specs.Prelude.{◌≡◌, ◌≢◌, ℕ, ◌^◌, ◌<◌, ◌≤◌}
 use Rattle.ft_layout.specs.declared.slot.Ref.{Ref}
 use Rattle.ft_trace.specs.declared.View.{View}
+use Rattle.ft_trace.specs.Addresses.{place_in}
 use Rattle.ft_trace.specs.Boxes.{made_state, local_count, taken_out, place_to_give, place_use, state_making, state_default}
 use Rattle.ft_bank.specs.BoxSteps.{box_id, IsOwn}
 use Rattle.ft_bank.specs.SameBoxes.{SameReferences}
+use Rattle.ft_boxes.specs.Merging.{FoundCounts}
 use Rattle.ft_boxes.specs.References.{LeavesOthers}
 
 -- as `IsSettled`, but for one box whose local count may be 0
@@ -24,3 +26,10 @@ pub record HasTakenOut (b : Ref) (taken : ℕ) (v w : View) : Type 0 where
   pub uses : place_use (box_id b) w.log ≡ place_use (box_id b) v.log
   pub others : LeavesOthers b v w
   pub same : SameReferences v w
+
+-- each box from one place to another, the last one not among them, that the pass has in the default state had references when
+-- the call loaded its counts
+abbrev pub LeavesNoIdleBoxIn : ℕ → ℕ → View → View → Type 0
+LeavesNoIdleBoxIn first past v w =
+    (b : ℕ) → first ≤ place_in b → place_in b < past → made_state b w.log ≡ state_default
+    → (total : ℕ) × (total ≢ 0) × FoundCounts b total v w

@@ -400,7 +400,7 @@ pub(super) const GROWN: [(Call, Wanted); 7] = [
     (Call::Set(2730, -1), Writes(Said::Done, 2730)),
     (Call::Len, Reads(Said::Count(2731), 2731)),
     (Call::Get(0), Reads(Said::Value(0), 2731)),
-    (Call::Get(2729), Reads(Said::Value(2729), 2731)),
+    (Call::Get(2729), Reads(Said::Value(169), 2731)),
     (Call::Get(2730), Reads(Said::Value(-1), 2731)),
     (Call::Has(2731), Reads(Said::Truth(false), 2731)),
 ];
@@ -412,7 +412,7 @@ pub(super) const CROWDED: [(Call, Wanted); 5] = [
         Call::SetOther(2730, -1),
         Reads(Said::Raised(Raise::Memory(13)), 5461),
     ),
-    (Call::GetOther(2729), Reads(Said::Value(2729), 5461)),
+    (Call::GetOther(2729), Reads(Said::Value(169), 5461)),
     (
         Call::GetOther(2730),
         Reads(Said::Raised(Raise::NoKey), 5461),
@@ -422,7 +422,7 @@ pub(super) const CROWDED: [(Call, Wanted); 5] = [
 ];
 
 /// What is so of a dict that has as many pairs as the largest table holds, up to a new key in the place of another one.
-pub(super) const LARGEST: [(Call, Wanted); 9] = [
+pub(super) const LARGEST: [(Call, Wanted); 11] = [
     (Call::Len, Reads(Said::Count(43690), 43690)),
     (
         Call::Set(43690, -1),
@@ -432,8 +432,16 @@ pub(super) const LARGEST: [(Call, Wanted); 9] = [
         Call::Default(43690, -1),
         Reads(Said::Raised(Raise::Over), 43690),
     ),
+    (
+        Call::Set(43690, 1000),
+        Reads(Said::Raised(Raise::Over), 43690),
+    ),
+    (
+        Call::Default(43690, 1000),
+        Reads(Said::Raised(Raise::Over), 43690),
+    ),
     (Call::Len, Reads(Said::Count(43690), 43690)),
-    (Call::Get(43689), Reads(Said::Value(43689), 43690)),
+    (Call::Get(43689), Reads(Said::Value(169), 43690)),
     (Call::Has(43690), Reads(Said::Truth(false), 43690)),
     (Call::Set(5, -5), Writes(Said::Done, 43690)),
     (Call::Get(5), Reads(Said::Value(-5), 43691)),
@@ -455,7 +463,7 @@ pub(super) const LARGEST_MOVED: [(Call, Wanted); 6] = [
     (Call::Set(43690, -1), Writes(Said::Done, 43692)),
     (Call::Len, Reads(Said::Count(43690), 43693)),
     (Call::Get(43690), Reads(Said::Value(-1), 43693)),
-    (Call::Get(43689), Reads(Said::Value(43689), 43693)),
+    (Call::Get(43689), Reads(Said::Value(169), 43693)),
     (Call::PopItem, Writes(Said::Pair(43690, -1), 43693)),
-    (Call::PopItem, Writes(Said::Pair(43689, 43689), 43694)),
+    (Call::PopItem, Writes(Said::Pair(43689, 169), 43694)),
 ];

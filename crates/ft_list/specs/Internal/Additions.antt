@@ -19,12 +19,9 @@ use Rattle.ft_trace.specs.ContainerStates.{kind_in}
 use Rattle.ft_list.specs.declared.addition.Addition.{Addition}
 use Rattle.ft_list.specs.declared.addition.Addition.TheVariants.{One, All}
 use Rattle.ft_bank.specs.BoxSteps.{HasReferenceFor}
-use Rattle.ft_section.specs.declared.answers.Stamp.{Stamp}
-use Rattle.ft_table_calls.specs.declared.adding.Added.{Added}
-use Rattle.ft_table_calls.specs.declared.adding.Added.TheVariants as added
+use Rattle.ft_search.specs.HeldValues.{StoresBox}
 use Rattle.ft_list.specs.HeldValues.{HasWordsFrom}
 use Rattle.ft_list.specs.ListItemWrites.{ReadsAs, known_items, stored_item}
-use Rattle.ft_list.specs.Internal.StoredBoxes.{StoresBox}
 
 -- how many items are added
 abbrev pub count_in : Addition → ℕ
@@ -51,10 +48,6 @@ abbrev pub NamesAdded : ℕ → List Value → Addition → View → Type 0
 NamesAdded o values (One place value stored) w =
     stored_kind stored ≡ box_kind → HasWordsFrom o values place value (stored_kind stored) (stored_payload stored) w
 NamesAdded o values (All other count) w = Unit {0}
-
--- the call was made
-abbrev pub IsMade : Added → Type 0
-IsMade what = (stamp : Stamp) × (what ≡ added.Made stamp)
 
 -- the box of what is added is that of an item, and the pass has no place taken any longer for one that no write stored
 abbrev pub HasNamed : ℕ → Addition → View → View → Type 0

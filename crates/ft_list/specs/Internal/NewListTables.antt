@@ -75,7 +75,8 @@ pub record HasRooted (o root : ℕ) (v w : View) : Type 0 where
 abbrev pub with_new_item : List ℕ → ℕ → ℕ → ℕ → List ℕ
 with_new_item words place kind payload =
     slice_set
-    (slice_set (slice_set (slice_set words (item_offset place 0) 0) (item_offset place 1) kind) (item_offset place 2) payload)
+    (slice_set (slice_set (slice_set words (item_offset place 0) 0) (item_offset place 1) kind) (item_offset place 2)
+    payload)
     (item_offset place 3) 0
 
 -- A kind and a payload are the words of the value that an item has in a table with these words, or 0 where the table has

@@ -1,30 +1,21 @@
-use Rattle.std.proofs.Common.{ℕ, ap, sym, ◌∙◌, refl, subst, arith}
-use Rattle.ft_layout.specs.declared.slot.Ref.{Ref}
-use Rattle.ft_trace.specs.Addresses.{place_in}
-use Rattle.ft_trace.specs.Boxes.{made_state}
+use Rattle.std.proofs.Common.{◌≡◌, ℕ, ◌+◌, ◌*◌, ◌<◌, ap, sym, ◌∙◌, subst, arith}
 use Rattle.ft_trace.specs.declared.Shape.{Shape}
 use Rattle.ft_bank.specs.Passes.{shape_of, view}
 use Rattle.ft_bank.proofs.KnownAfterWrites.{boxed_then}
-use Rattle.ft_boxes.specs.Merging.{FoundCounts}
-use Rattle.ft_boxes.proofs.Heaps.{first_then, left_next, merges_then, name_sum, number_is_low, own_low, own_name}
+use Rattle.ft_boxes.specs.Internal.Merges.{LeavesNoIdleBoxIn}
+use Rattle.ft_boxes.proofs.Heaps.{first_then, left_on, merges_then, own_name}
 use Rattle.ft_boxes.proofs.Steps.{places_then, same_then}
 use Rattle.ft_boxes.proofs.merging.merge_idle.Goals as goal
 
-pub merge_if_idle-requires-clause-name : goal.merge_if_idle-requires-clause-name
-merge_if_idle-requires-clause-name c =
+pub loop-word-preserved : goal.loop-word-preserved
+loop-word-preserved c =
     let v = view c.args.pass.now in
-    let less = c.loop-place-test.true in
-    let end = c.heap-place-end.ensures in
-    (own_low v (shape_of c.args.bank.now) c.number-maker.result c.requires.pass.1 c.number-maker.ensures.number (number_is_low v c.number-maker.ensures.possible), omega (arith, less, end))
-
-pub loop-place-preserved : goal.loop-place-preserved
-loop-place-preserved c =
-    let v = view c.args.pass.now in
-    let x = view c.loop-place.pass in
-    let w = view c.merge_if_idle.new.pass in
-    let old = c.loop-place.invariant in
-    let now = c.merge_if_idle.ensures in
-    let b : Ref = record { pass = c.number-maker.result; place = c.loop-place.place } in record {
+    let x = view c.loop-word.pass in
+    let w = view c.merge_idle_in.new.pass in
+    let word = c.loop-word.word in
+    let old = c.loop-word.invariant in
+    let now = c.merge_idle_in.ensures in
+    let next : 64 * word + 64 ≡ 64 * (word + 1) = omega arith in record {
       pass = now.pass;
       sections = now.sections ∙ old.sections;
       settled = now.settled;
@@ -33,20 +24,18 @@ loop-place-preserved c =
       places = places_then v x w old.places now.places;
       values = first_then v x w old.only old.same old.values now.values;
       merges = merges_then v x w old.only now.only old.merges now.merges;
-      left = left_next v x w b c.number-maker.result c.loop-place.place refl old.only now.only now.others now.left old.left;
+      left = subst (λ (n : ℕ). LeavesNoIdleBoxIn 0 n v w) next (left_on v x w 0 (64 * word) (64 * word + 64) old.only now.only now.merges old.left now.left);
     }
 
 pub returns-clause-left : goal.returns-clause-left
 returns-clause-left c b own =
-    let v = view c.args.pass.now in
-    let w = view c.loop-place.pass in
-    let old = c.loop-place.invariant in
-    let name = own_name w c.loop-place.pass.possible b own in
-    let number = old.only.work.pass.number ∙ c.number-maker.ensures.number in
-    let is = name_sum b c.number-maker.result w.number name.0 number in
+    let w = view c.loop-word.pass in
+    let old = c.loop-word.invariant in
+    let low = (own_name w c.loop-word.pass.possible b own).1 in
     let heap = ap (λ (z : Shape). z.heap) (old.only.work.pass.shape ∙ c.requires.pass.1) in
-    let end = c.heap-place-end.ensures in
-    let done = c.loop-place-test.false in
-    let low = name.1 in
-    let found = old.left (place_in b) (omega (arith, heap, end, done, low)) (ap (λ (n : ℕ). made_state n w.log) (sym is) ∙ own) in
-    (found.0, found.1, subst (λ (n : ℕ). FoundCounts n found.0 v w) (sym is) found.2)
+    let end = c.heap-word-end.ensures in
+    let done = c.loop-word-test.false in
+    let whole = c.args.bank.now.fits.heap in
+    let parts = whole.0 in
+    let even = whole.2 in
+    old.left b (omega arith) (omega (arith, heap, end, done, low, parts, even)) own

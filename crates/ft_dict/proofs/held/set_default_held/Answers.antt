@@ -1,4 +1,4 @@
-use Rattle.std.proofs.Common.{◌≡◌, ◌<◌, ◌*◌, ◌^◌, Bool, true, false, true≢false, Option, Some, None, refl, sym, ap, ◌∙◌, subst, arith}
+use Rattle.std.proofs.Common.{◌≡◌, ◌<◌, ◌*◌, ◌^◌, Bool, true, false, true≢false, Option, Some, None, sym, ap, ◌∙◌, subst, arith}
 use Rattle.std.specs.Prelude.{if◌then◌else◌}
 use Rattle.std.specs.Option.{option_map_or, unwrap_or}
 use Rattle.ft_model.specs.declared.call.Call.TheVariants as call
@@ -155,7 +155,7 @@ returns-in-At-clause-put c =
       before = r;
       boxed = e.only;
       box = None;
-      put = record { wrote = wrote; root = n.root; there = record { boxes = boxes_then; names = λ b is. absurd (no_box b is) } };
+      put = record { wrote = wrote; root = n.root; references = record { boxes = boxes_then; names = λ b is. absurd (no_box b is) } };
     })
 
 pub returns-in-At-clause-said : goal.returns-in-At-clause-said

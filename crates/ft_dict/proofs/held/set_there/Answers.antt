@@ -1,8 +1,6 @@
-use Rattle.std.proofs.Common.{◌≡◌, ℕ, ◌+◌, ◌<◌, eqb, cond, true, false, true≢false, Option, None, Some, refl, sym, ap, ◌∙◌, subst, arith}
+use Rattle.std.proofs.Common.{◌≡◌, ◌<◌, true≢false, Option, None, Some, refl, sym, ap, ◌∙◌, subst, arith}
 use Rattle.std.specs.Option.{unwrap_or}
 use Rattle.ft_layout.specs.declared.slot.Ref.{Ref}
-use Rattle.ft_layout.specs.declared.slot.Stored.TheVariants.{Boxed, Plain}
-use Rattle.ft_layout.specs.Words.{stored_kind, stored_payload}
 use Rattle.ft_model.specs.declared.call.Call.TheVariants as call
 use Rattle.ft_model.specs.declared.call.DictCall.TheVariants as dict
 use Rattle.ft_model.specs.declared.reply.Reply.TheVariants as reply
@@ -15,7 +13,6 @@ use Rattle.ft_trace.specs.ContainerStates.{ContainerState}
 use Rattle.ft_trace.specs.Holds.{held_unboxed, known_state}
 use Rattle.ft_trace.specs.Pictures.{ContainerWords, entry_field, root_in}
 use Rattle.ft_trace.proofs.Cases.{here}
-use Rattle.ft_trace.proofs.ValuePlaces.{plain_kind}
 use Rattle.ft_bank.specs.BoxSteps.{box_id}
 use Rattle.ft_bank.specs.Passes.{shape_of, view}
 use Rattle.ft_bank.specs.TableNames.{table_id}
@@ -111,7 +108,7 @@ returns-then-says_value-clause-wrote c =
       put = record {
         wrote = e.wrote;
         root = e.root;
-        there = record {
+        references = record {
           boxes = done_settled k r w c.release.ensures.pass.1 e.wrote.pass.shape e.references e.wrote.made (done (goal.at.returns-then-says_value-clause-wrote c).After-release);
           names = λ b is. absurd (no_box b is);
         };
@@ -199,7 +196,7 @@ returns-clause-wrote c =
       put = record {
         wrote = e.wrote;
         root = e.root;
-        there = record {
+        references = record {
           boxes = record {
             settled = e.wrote.made.settled c.requires.may.settled;
             none = λ n.

@@ -10,12 +10,11 @@ use Rattle.ft_trace.specs.Holds.{known_state}
 use Rattle.ft_bank.specs.Answered.{Answered}
 use Rattle.ft_bank.specs.Passes.{shape_of, view}
 use Rattle.ft_table_calls.proofs.GrowthMidst.{making_added, making_given}
-use Rattle.ft_new_keys.proofs.Cursors.{puts_cursors}
 use Rattle.ft_merging.proofs.JoinedCalls.{joins_cursors}
 use Rattle.ft_reads.proofs.CopyMidst.{making_copied}
 use Rattle.ft_replacing.proofs.Comings.{replaced_making}
 use Rattle.ft_dict.specs.DictMaking.{DictCallMakes}
-use Rattle.ft_dict.proofs.DictTries.{dict_made, dict_put, dict_read}
+use Rattle.ft_dict.proofs.DictTries.{dict_made, dict_read}
 use Rattle.ft_dict.proofs.making.make_dict.Goals as goal
 
 -- ---- reads
@@ -40,22 +39,8 @@ returns-in-Len-clause-making c =
 pub returns-in-Set-clause-made : goal.returns-in-Set-clause-made
 returns-in-Set-clause-made c = subst (λ (dc : DictCall). DictCallMakes (shape_of c.args.bank.now) c.args.d dc c.set_value.result (view c.args.pass.now) (view c.set_value.new.pass)) (sym c.in-Set.is) c.set_value.ensures.made
 
-pub returns-in-SetDefault-clause-making : goal.returns-in-SetDefault-clause-making
-returns-in-SetDefault-clause-making c =
-    let r = c.setdefault_by-added.result in
-    let e = c.setdefault_by-added.ensures in
-    dict_put (shape_of c.args.bank.now) c.args.d c.in-SetDefault.key (dict.SetDefault c.in-SetDefault.key c.in-SetDefault.default) r.1 r.0 c.requires.making e.pass e.stack e.added.1
-
 pub returns-in-SetDefault-clause-made : goal.returns-in-SetDefault-clause-made
-returns-in-SetDefault-clause-made c =
-    let k = shape_of c.args.bank.now in
-    let d = c.args.d in
-    let v = view c.args.pass.now in
-    let w = view c.setdefault_by-added.new.pass in
-    let r = c.setdefault_by-added.result in
-    let added = c.setdefault_by-added.ensures.added in
-    subst (λ (dc : DictCall). DictCallMakes k d dc c.after.result v w) (sym c.in-SetDefault.is)
-    (r.1, (r.0, sym c.after.ensures, added, puts_cursors k d c.in-SetDefault.key (call.Dict d (dict.SetDefault c.in-SetDefault.key c.in-SetDefault.default)) r.1 v w r.0 added.1))
+returns-in-SetDefault-clause-made c = subst (λ (dc : DictCall). DictCallMakes (shape_of c.args.bank.now) c.args.d dc c.set_default.result (view c.args.pass.now) (view c.set_default.new.pass)) (sym c.in-SetDefault.is) c.set_default.ensures.made
 
 pub returns-in-Update-clause-making : goal.returns-in-Update-clause-making
 returns-in-Update-clause-making c =
@@ -69,8 +54,8 @@ returns-in-Update-clause-made c =
     let v = view c.args.pass.now in
     let w = view c.update_by.new.pass in
     let added = c.update_by.ensures.added in
-    subst (λ (dc : DictCall). DictCallMakes k d dc c.after-in-Update.result v w) (sym c.in-Update.is)
-    (c.update_by.result, sym c.after-in-Update.ensures, added, joins_cursors k d c.in-Update.other (call.Dict d (dict.Update c.in-Update.other)) v w c.update_by.result added)
+    subst (λ (dc : DictCall). DictCallMakes k d dc c.after.result v w) (sym c.in-Update.is)
+    (c.update_by.result, sym c.after.ensures, added, joins_cursors k d c.in-Update.other (call.Dict d (dict.Update c.in-Update.other)) v w c.update_by.result added)
 
 pub returns-in-CopyTo-clause-making : goal.returns-in-CopyTo-clause-making
 returns-in-CopyTo-clause-making c =

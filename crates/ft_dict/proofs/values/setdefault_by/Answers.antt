@@ -1,4 +1,4 @@
-use Rattle.std.proofs.Common.{◌≡◌, ◌<◌, ◌*◌, ◌^◌, true, Option, Some, None, sym, ap, ◌∙◌, subst, arith}
+use Rattle.std.proofs.Common.{◌≡◌, ◌<◌, ◌*◌, ◌^◌, Option, Some, None, sym, ap, ◌∙◌, subst, arith}
 use Rattle.std.specs.Option.{unwrap_or}
 use Rattle.ft_model.specs.declared.call.Call.TheVariants as call
 use Rattle.ft_model.specs.declared.call.DictCall.TheVariants as dict
@@ -16,30 +16,23 @@ use Rattle.ft_trace.specs.Holds.{held_unboxed, known_state}
 use Rattle.ft_trace.specs.ContainerStates.{ContainerState}
 use Rattle.ft_bank.specs.declared.table.Table.{Table}
 use Rattle.ft_bank.specs.Passes.{shape_of, view}
-use Rattle.ft_bank.specs.Whole.{Wrote}
 use Rattle.ft_bank.proofs.ShownReplies.{serials_have_room}
 use Rattle.ft_bank.proofs.KnownAfterWrites.{work_knows}
-use Rattle.ft_section.specs.declared.answers.Stamp.{Stamp}
 use Rattle.ft_search.specs.Held.{IsHeldAt}
-use Rattle.ft_search.specs.OneEntryWrites.{Leaves}
-use Rattle.ft_new_keys.specs.KeyGrowth.{AddsKey, IsFreeFor, holds}
+use Rattle.ft_new_keys.specs.KeyGrowth.{AddsKey, IsFreeFor}
 use Rattle.ft_new_keys.proofs.Keyed.{knows_here, knows_bare}
-use Rattle.ft_new_keys.proofs.Present.{may_add, puts_absent, puts_present}
+use Rattle.ft_new_keys.proofs.Present.{may_add, puts_absent}
 use Rattle.ft_dict.proofs.Deleted as deleted
 use Rattle.ft_dict.specs.Values.{default_reply}
 use Rattle.ft_dict.proofs.Reading.{not_found}
+use Rattle.ft_dict.proofs.BoxedPuts.{default_loaded}
 use Rattle.ft_dict.proofs.NewKeys.{setdefault_adds}
 use Rattle.ft_dict.proofs.values.setdefault_by.Goals as goal
-use Rattle.ft_dict.proofs.values.setdefault_by.Goals.{After-seek_key, After-value_at}
+use Rattle.ft_dict.proofs.values.setdefault_by.Goals.{After-seek_key}
 
 -- the dict, as it is known once the key was sought
 known_pairs : (c : After-seek_key) → (pairs : DictContent) × ((known_state c.args.d (view c.seek_key.new.pass)).content ≡ content.Dict pairs) × (c.args.d < container_count (view c.seek_key.new.pass).shape)
 known_pairs c = deleted.known_dict (shape_of c.args.bank.now) (view c.seek_key.new.pass) c.args.d c.seek_key.ensures.pass.1 c.seek_key.new.pass.possible c.seek_key.ensures.may c.requires.dict
-
-leaves : (c : After-value_at) → Leaves c.args.d (call.Dict c.args.d (dict.SetDefault c.args.key c.args.default)) (reply.Value c.value_at.result) (known_state c.args.d (view c.seek_key.new.pass)) (view c.seek_key.new.pass)
-leaves c =
-    let p = deleted.known_dict (shape_of c.args.bank.now) (view c.seek_key.new.pass) c.args.d c.seek_key.ensures.pass.1 c.seek_key.new.pass.possible c.seek_key.ensures.may c.requires.dict in
-    deleted.setdefault_leaves c.args.d (view c.seek_key.new.pass) p.0 p.2 c.seek_key.ensures.may.locked p.1 c.args.key c.seek_key.ensures.key c.args.default c.value_at.result c.value_fits.ensures c.value_at.ensures
 
 adds : (c : After-seek_key) → IsHeldAt (known_state c.args.d (view c.seek_key.new.pass)).content c.args.key None → AddsKey c.args.d (call.Dict c.args.d (dict.SetDefault c.args.key c.args.default)) (reply.Value c.args.default) c.args.key (Plain c.args.default) (view c.seek_key.new.pass)
 adds c none =
@@ -50,9 +43,6 @@ serials : (c : After-seek_key) → serial_of (known_state c.args.d (view c.seek_
 serials c =
     let room = serials_have_room (view c.seek_key.new.pass) c.args.d c.seek_key.new.pass.possible (subst (λ (k : Shape). k.passes * k.calls < 2 ^ 46) (sym c.seek_key.ensures.pass.1) c.args.bank.now.few) c.seek_key.ensures.may.locked in
     omega (arith, room)
-
-pub write_nothing-number-requires-clause-leaves : goal.write_nothing-number-requires-clause-leaves
-write_nothing-number-requires-clause-leaves c = leaves (goal.at.write_nothing-number-requires-clause-leaves c).After-value_at
 
 same : (c : After-seek_key) → (known_state c.args.d (view c.seek_key.new.pass)).content ≡ (known_state c.args.d (view c.args.pass.now)).content
 same c = ap (λ (z : ContainerState). z.content) (work_knows (view c.args.pass.now) (view c.seek_key.new.pass) c.args.d c.seek_key.ensures.keeps.work)
@@ -68,20 +58,8 @@ missing c none =
 pub returns-in-At-clause-added : goal.returns-in-At-clause-added
 returns-in-At-clause-added c =
     let a = c.args in
-    let at = (goal.at.returns-in-At-clause-added c).After-value_at in
-    let s = (goal.at.returns-in-At-clause-added c).After-seek_key in
-    let p = known_pairs s in
-    let u = view c.seek_key.new.pass in
-    let w = view c.write_nothing-number.new.pass in
-    let n = c.write_nothing-number.ensures in
-    let said = reply.Value c.value_at.result in
-    let h = subst (λ (z : Content). IsHeldAt z a.key (Some (c.in-At.value_kind, c.in-At.payload))) p.1 c.in-At.ensures.spot.2 in
-    let there : holds (known_state a.d u).content a.key ≡ true = ap (λ (z : Content). holds z a.key) p.1 ∙ deleted.has_there a.d u p.0 p.2 c.seek_key.ensures.may.locked p.1 a.key c.seek_key.ensures.key c.in-At.value_kind c.in-At.payload h n.wrote.found n.wrote.has in
-    let value : c.value_at.result ≡ unwrap_or (dict_get (dict_of (known_state a.d (view a.pass.now)).content).pairs a.key) a.default =
-    ap (λ (z : Option Value). unwrap_or z a.default) (sym (deleted.value_there a.d u p.0 p.2 c.seek_key.ensures.may.locked p.1 a.key c.seek_key.ensures.key c.value_at.result c.value_at.ensures n.wrote.found n.wrote.has)) ∙ ap (λ (z : Content). unwrap_or (dict_get (dict_of z).pairs a.key) a.default) (sym p.1 ∙ same s) in (
-      ap reply.Value value,
-      puts_present (shape_of a.bank.now) a.d a.key (call.Dict a.d (dict.SetDefault a.key a.default)) said (view a.pass.now) u w c.seek_key.ensures.keeps c.written.result (leaves at).changed there (ap (λ (z : Stamp). z.wrote) c.written.ensures) (subst (λ (z : Stamp). Wrote (call.Dict a.d (dict.SetDefault a.key a.default)) said z.number u w) (sym c.written.ensures) n.wrote) n.root n.references,
-    )
+    let r = c.default_there.result in
+    default_loaded (shape_of a.bank.now) a.d a.key a.default r.1 (view a.pass.now) (view c.seek_key.new.pass) (view c.default_there.new.pass) r.0 c.seek_key.ensures.keeps c.default_there.ensures.added
 
 -- ---- a table that has the key nowhere
 

@@ -17,7 +17,8 @@ use Rattle.ft_table_calls.proofs.Rooting.{taken_out}
 use Rattle.ft_list.specs.ListWrites.{Grows}
 use Rattle.ft_list.specs.ListItemWrites.{known_items}
 use Rattle.ft_list.specs.Internal.Additions.{count_in, with_added, NamesAdded}
-use Rattle.ft_list.proofs.AddedStored.{names_kept, not_made, retired_uses, stores_on, words_kept_all}
+use Rattle.ft_table_calls.proofs.Unmade.{not_made}
+use Rattle.ft_list.proofs.AddedStored.{names_kept, retired_uses, stores_on, words_kept_all}
 use Rattle.ft_list.proofs.Additions.{taken_grows, no_table_lacks, taken_room, taken_other, taken_wider, taken_root, tried_addition, tried_has, tried_grows, tried_items, tried_knows, tried_may, tried_news}
 use Rattle.ft_list.proofs.Extending.{added_long}
 use Rattle.ft_list.proofs.GrowWrites.{list_changes}

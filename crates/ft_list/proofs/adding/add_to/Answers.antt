@@ -1,5 +1,5 @@
 use Rattle.std.proofs.Common.{◌≡◌, ◌+◌, true, refl, sym, ◌∙◌, subst, arith}
-use Rattle.ft_list.proofs.AddedStored.{not_made}
+use Rattle.ft_table_calls.proofs.Unmade.{not_made}
 use Rattle.ft_model.specs.declared.call.Call.{Call}
 use Rattle.ft_model.specs.TableUses.{CanLackMemory, would_pass}
 use Rattle.ft_bank.specs.Passes.{shape_of, view}

@@ -10,6 +10,7 @@ use Rattle.ft_trace.specs.ContainerStates.{ContainerState}
 use Rattle.ft_bank.specs.Passes.{shape_of, view}
 use Rattle.ft_bank.proofs.KnownAfterWrites.{loaded_then, work_knows}
 use Rattle.ft_table_calls.proofs.Cursors.{added_cursors}
+use Rattle.ft_list.specs.HeldValues.{GivesReference}
 use Rattle.ft_list.specs.ListWrites.{Adds}
 use Rattle.ft_list.specs.ListItemWrites.{known_items}
 use Rattle.ft_list.proofs.ListCallFacts.{append_adds}
@@ -60,14 +61,14 @@ returns-clause-added c =
     let u = view c.root_table-old.new.pass in
     let e = c.root_table-old.ensures in
     adds_items (shape_of a.bank.now) a.l 1 c.root_table-old.result (view a.pass.now) u (view c.add_to.new.pass) (c.count_of-count.result + 1) (call.List a.l (list.Append a.value)) c.add_to.result
-    (loaded_then (view a.pass.now) x u c.count_of-count.ensures.only e.only) e.list e.pass.1 c.root_table-old.new.pass.possible (ap (λ (n : ℕ). n + 1) c.count_of-count.ensures.count) (plain_added (shape_of a.bank.now) _ _ _ _ u (view c.add_to.new.pass) c.add_to.result e.pass.1 (plain_kind a.value) c.add_to.ensures.added)
+    (loaded_then (view a.pass.now) x u c.count_of-count.ensures.only e.only) e.list e.pass.1 c.root_table-old.new.pass.possible (ap (λ (n : ℕ). n + 1) c.count_of-count.ensures.count) (plain_added (shape_of a.bank.now) _ _ (Plain a.value) _ u (view c.add_to.new.pass) c.add_to.result e.pass.1 (plain_kind a.value) c.add_to.ensures.added)
 
 pub returns-clause-cursors : goal.returns-clause-cursors
 returns-clause-cursors c number =
     let a = c.args in
     let e = c.root_table-old.ensures in
     let u = view c.root_table-old.new.pass in
-    added_cursors (shape_of c.args.bank.now) _ _ _ reply.Done (view c.root_table-old.new.pass) (view c.add_to.new.pass) c.add_to.result (plain_added (shape_of a.bank.now) _ _ _ _ u (view c.add_to.new.pass) c.add_to.result e.pass.1 (plain_kind a.value) c.add_to.ensures.added) number
+    added_cursors (GivesReference (shape_of a.bank.now) (Plain a.value)) (shape_of a.bank.now) _ _ _ reply.Done u (view c.add_to.new.pass) c.add_to.result c.add_to.ensures.added number
     ∙ (e.only.work.pass.cursors number ∙ c.count_of-count.ensures.only.work.pass.cursors number)
 
 pub add_to-requires-clause-stores : goal.add_to-requires-clause-stores

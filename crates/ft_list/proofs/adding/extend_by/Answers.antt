@@ -2,11 +2,13 @@ use Rattle.std.proofs.Common.{◌≡◌, ◌<◌, ℕ, ◌+◌, length, refl, sy
 use Rattle.ft_model.specs.declared.call.Call.TheVariants as call
 use Rattle.ft_model.specs.declared.call.ListCall.TheVariants as list
 use Rattle.ft_model.specs.declared.reply.Reply.TheVariants as reply
+use Rattle.ft_layout.specs.declared.slot.Stored.TheVariants.{Empty}
 use Rattle.ft_trace.specs.declared.Shape.{Shape}
 use Rattle.ft_trace.specs.Addresses.{container_count}
 use Rattle.ft_bank.specs.Passes.{shape_of, view}
 use Rattle.ft_bank.proofs.KnownAfterWrites.{loaded_then}
 use Rattle.ft_table_calls.proofs.Cursors.{added_cursors}
+use Rattle.ft_list.specs.HeldValues.{GivesReference}
 use Rattle.ft_list.specs.ListItemWrites.{known_items}
 use Rattle.ft_list.proofs.Additions.{adds_items}
 use Rattle.ft_list.proofs.ListCallFacts.{extend_adds}
@@ -90,14 +92,14 @@ returns-clause-added c =
     let f = c.count_of-more.ensures in
     let more : c.count_of-more.result ≡ length (known_items a.m v) = f.count ∙ ap length (items_loaded a.m v x c.count_of-count.ensures.only) in
     adds_items (shape_of a.bank.now) a.l (length (known_items a.m v)) c.root_table-old.result v u (view c.add_to.new.pass) (c.count_of-count.result + c.count_of-more.result) (call.List a.l (list.Extend a.m)) c.add_to.result
-    (loaded_then v x u c.count_of-count.ensures.only (loaded_then x y u f.only e.only)) e.list e.pass.1 c.root_table-old.new.pass.possible (λ d. c.count_of-count.ensures.count d + more d) (plain_added (shape_of a.bank.now) _ _ _ _ u (view c.add_to.new.pass) c.add_to.result e.pass.1 (λ four. omega (arith, four)) c.add_to.ensures.added)
+    (loaded_then v x u c.count_of-count.ensures.only (loaded_then x y u f.only e.only)) e.list e.pass.1 c.root_table-old.new.pass.possible (λ d. c.count_of-count.ensures.count d + more d) (plain_added (shape_of a.bank.now) _ _ Empty _ u (view c.add_to.new.pass) c.add_to.result e.pass.1 (λ four. omega (arith, four)) c.add_to.ensures.added)
 
 pub returns-clause-cursors : goal.returns-clause-cursors
 returns-clause-cursors c number =
     let a = c.args in
     let e = c.root_table-old.ensures in
     let u = view c.root_table-old.new.pass in
-    added_cursors (shape_of c.args.bank.now) _ _ _ reply.Done (view c.root_table-old.new.pass) (view c.add_to.new.pass) c.add_to.result (plain_added (shape_of a.bank.now) _ _ _ _ u (view c.add_to.new.pass) c.add_to.result e.pass.1 (λ four. omega (arith, four)) c.add_to.ensures.added) number
+    added_cursors (GivesReference (shape_of a.bank.now) Empty) (shape_of a.bank.now) _ _ _ reply.Done u (view c.add_to.new.pass) c.add_to.result c.add_to.ensures.added number
     ∙ (e.only.work.pass.cursors number ∙ (c.count_of-more.ensures.only.work.pass.cursors number ∙ c.count_of-count.ensures.only.work.pass.cursors number))
 
 pub add_to-requires-clause-stores : goal.add_to-requires-clause-stores

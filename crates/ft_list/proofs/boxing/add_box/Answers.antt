@@ -10,12 +10,12 @@ use Rattle.ft_bank.specs.BoxSteps.{box_id}
 use Rattle.ft_bank.proofs.KnownAfterWrites.{loaded_held}
 use Rattle.ft_search.proofs.Overs.{boxed_names, other_way}
 use Rattle.ft_trace.proofs.ReferencesOfPuts.{names_low}
-use Rattle.ft_table_calls.specs.declared.adding.Added.{Added}
-use Rattle.ft_list.specs.HeldValues.{AddsHeld, HasWordsFrom, HoldsValue}
+use Rattle.ft_search.specs.HeldValues.{HoldsValue}
+use Rattle.ft_list.specs.HeldValues.{HasWordsFrom}
 use Rattle.ft_list.specs.ListItemWrites.{known_items}
 use Rattle.ft_list.specs.ListWrites.{Adds, MayBeginList}
 use Rattle.ft_list.specs.Internal.NewListTables.{KnowsList}
-use Rattle.ft_list.proofs.AddedHeld.{adds_on, adds_stored, held_added, unmade_holds, unmade_is}
+use Rattle.ft_list.proofs.AddedHeld.{adds_on, adds_stored, held_added, unmade_holds}
 use Rattle.ft_list.proofs.HeldWrites.{begins_on, box_own, box_reads, box_stores, holds_loaded, items_on, loaded_reads}
 use Rattle.ft_list.proofs.boxing.add_box.Goals as goal
 use Rattle.ft_list.proofs.boxing.add_box.Goals.{After-table_at_root-old}
@@ -120,7 +120,7 @@ drop_unmade-requires-clause-held c unmade =
     let v = view a.pass.now in
     let r = view c.table_at_root-old.new.pass in
     let x = view c.add_to-added.new.pass in
-    unmade_holds k a.l a.item.place a.item.value a.item.at a.called.now v r x x c.requires.pass.1 c.table_at_root-old.ensures.only (holds_then d) may.settled may.even _ _ c.add_to-added.result (unmade_is c.add_to-added.result unmade) c.add_to-added.ensures.added
+    unmade_holds k a.l a.item.place a.item.value a.item.at a.called.now v r x x c.requires.pass.1 c.table_at_root-old.ensures.only (holds_then d) may.settled may.even _ _ c.add_to-added.result unmade c.add_to-added.ensures.added
 
 pub returns-clause-added : goal.returns-clause-added
 returns-clause-added c =
@@ -140,7 +140,6 @@ returns-clause-added c =
     let what = c.add_to-added.result in
     let count : a.count + 1 ≡ length (known_items a.l v) + 1 = ap (λ (n : ℕ). n + 1) c.requires.count.0 in
     let adds = adds_stored k a.l (Boxed b) c.table_at_root-old.result v r x (a.count + 1) called what c.table_at_root-old.ensures.only (list_then d) c.table_at_root-old.ensures.pass.1 c.table_at_root-old.new.pass.possible count e.added in
-    subst (λ (z : Added). AddsHeld k a.l place value b called v w z) (sym c.drop_unmade.ensures.same)
-    (held_added k a.l place value b called v r x w c.requires.pass.1 c.table_at_root-old.ensures.only (holds_then d) may.settled may.even _ _ what e.added adds
+    held_added k a.l place value b called v r x w c.requires.pass.1 c.table_at_root-old.ensures.only (holds_then d) may.settled may.even _ _ what e.added adds
     (λ made. let n = e.named made in (subst (λ (l : List Value). HasWordsFrom a.l l place value 4 (box_id b) x) (items_then d) (n.0 refl), n.1))
-    c.drop_unmade.ensures.drops)
+    c.drop_unmade.ensures.drops

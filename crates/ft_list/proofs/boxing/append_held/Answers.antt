@@ -13,7 +13,8 @@ use Rattle.ft_bank.specs.Passes.{shape_of, view}
 use Rattle.ft_bank.specs.Whole.{OnlyLoaded}
 use Rattle.ft_bank.proofs.KnownAfterWrites.{loaded_by}
 use Rattle.ft_boxes.specs.References.{box_of}
-use Rattle.ft_list.specs.HeldValues.{AddsHeld, HoldsValue}
+use Rattle.ft_search.specs.HeldValues.{HoldsValue}
+use Rattle.ft_list.specs.HeldValues.{AddsHeldItem}
 use Rattle.ft_list.specs.ListItemWrites.{known_items}
 use Rattle.ft_list.specs.ListWrites.{Adds, MayBeginList}
 use Rattle.ft_list.proofs.AddedHeld.{held_loaded}
@@ -93,5 +94,5 @@ returns-clause-added c =
     let v = view a.pass.now in
     let w = view c.add_box.new.pass in
     let called = call.List a.l (list.Append a.value) in
-    subst (λ (z : ℕ × Ref). AddsHeld k a.l z.0 a.value z.1 called v w c.add_box.result) (λ i. (count_is d i, c.keep.ensures i))
+    subst (λ (z : ℕ × Ref). AddsHeldItem k a.l z.0 a.value z.1 called v w c.add_box.result) (λ i. (count_is d i, c.keep.ensures i))
     (held_loaded k a.l c.read_block-count.result a.value c.keep.result called v (view c.read_block-count.new.pass) w c.add_box.result (load d) c.add_box.ensures.added)

@@ -13,7 +13,8 @@ use Rattle.ft_bank.specs.Passes.{shape_of, view}
 use Rattle.ft_bank.specs.Whole.{OnlyLoaded}
 use Rattle.ft_bank.proofs.KnownAfterWrites.{loaded_by}
 use Rattle.ft_boxes.specs.References.{box_of}
-use Rattle.ft_list.specs.HeldValues.{AddsHeld, HoldsValue}
+use Rattle.ft_search.specs.HeldValues.{HoldsValue}
+use Rattle.ft_list.specs.HeldValues.{AddsHeldItem}
 use Rattle.ft_list.specs.ListItemWrites.{known_items}
 use Rattle.ft_list.specs.ListWrites.{Adds, MayBeginList}
 use Rattle.ft_list.proofs.AddedHeld.{held_loaded}
@@ -101,6 +102,6 @@ returns-clause-added c =
     let z = to_z w64 (of_z w64 a.index) in
     let called = call.List a.l (list.Insert z a.value) in
     let place : c.clamped.result ≡ clamped_in (length (known_items a.l v)) z = c.clamped.ensures.place ∙ ap (λ (n : ℕ). clamped_in n z) (count_is d) in
-    subst (λ (i : ℤ). AddsHeld k a.l (clamped_in (length (known_items a.l v)) i) a.value (box_of a.held) (call.List a.l (list.Insert i a.value)) v w c.add_box.result) (to_z-of_z {w = w64} {z = a.index} c.ranges.index)
-    (subst (λ (y : ℕ × Ref). AddsHeld k a.l y.0 a.value y.1 called v w c.add_box.result) (λ i. (place i, c.keep.ensures i))
+    subst (λ (i : ℤ). AddsHeldItem k a.l (clamped_in (length (known_items a.l v)) i) a.value (box_of a.held) (call.List a.l (list.Insert i a.value)) v w c.add_box.result) (to_z-of_z {w = w64} {z = a.index} c.ranges.index)
+    (subst (λ (y : ℕ × Ref). AddsHeldItem k a.l y.0 a.value y.1 called v w c.add_box.result) (λ i. (place i, c.keep.ensures i))
     (held_loaded k a.l c.clamped.result a.value c.keep.result called v (view c.read_block-count.new.pass) w c.add_box.result (load d) c.add_box.ensures.added))

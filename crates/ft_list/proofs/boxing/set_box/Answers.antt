@@ -20,7 +20,7 @@ use Rattle.ft_bank.proofs.KnownAfterWrites.{boxed_then, loaded_boxed, loaded_hel
 use Rattle.ft_boxes.specs.References.{box_of}
 use Rattle.ft_search.proofs.Overs.{plain_refs}
 use Rattle.ft_search.proofs.Owning.{plain_seen}
-use Rattle.ft_list.specs.HeldValues.{HoldsValue}
+use Rattle.ft_search.specs.HeldValues.{HoldsValue}
 use Rattle.ft_list.specs.ListItemWrites.{known_items, stored_item}
 use Rattle.ft_list.specs.ListWrites.{Changes, MayBeginList, MayWriteList}
 use Rattle.ft_list.proofs.HeldWrites.{begins_on, box_own, box_reads, box_stores, boxed_reads, changes_on, done_dropped, done_stored, done_wrote, holds_box, holds_loaded, item_stands, items_on, loaded_reads, may_on}

@@ -21,7 +21,8 @@ use Rattle.ft_bank.specs.Passes.{shape_of, view}
 use Rattle.ft_bank.specs.Whole.{OnlyBoxed, OnlyLoaded}
 use Rattle.ft_bank.proofs.KnownAfterWrites.{boxed_then, loaded_boxed, loaded_by, loaded_then}
 use Rattle.ft_boxes.specs.References.{box_of}
-use Rattle.ft_list.specs.HeldValues.{HoldsValue, MadeHeld, NamesBoxAt}
+use Rattle.ft_search.specs.HeldValues.{HoldsValue}
+use Rattle.ft_list.specs.HeldValues.{MadeHeld, NamesBoxAtPlace}
 use Rattle.std.specs.Option.{unwrap_or}
 use Rattle.ft_list.specs.ListItemWrites.{known_items, stored_item}
 use Rattle.ft_list.specs.ListWrites.{Changes, MayBeginList, MayWriteList, Raises}
@@ -241,7 +242,7 @@ returns-in-Some-clause-names c place means other =
     sym c.in-Some.is ∙ (c.place_in.ensures.answer ∙ ((λ i. index_in (n i) (to_z-of_z {w = w64} {z = a.index} c.ranges.index i)) ∙ means)) in
     let same : c.in-Some.place ≡ place = ap (λ (z : Option ℕ). unwrap_or z 0) found in
     let items = items_on a.l (view a.pass.now) (view c.table_in-table.new.pass) (both d).work in
-    subst (λ (q : ℕ). NamesBoxAt a.l q (box_of a.held) (view c.set_box-number.new.pass)) same
+    subst (λ (q : ℕ). NamesBoxAtPlace a.l q (box_of a.held) (view c.set_box-number.new.pass)) same
     (c.set_box-number.ensures.names (λ e. other (sym (λ i. stored_item (items i) (same i)) ∙ e)))
 
 pub returns-in-None-clause-names : goal.returns-in-None-clause-names

@@ -8,19 +8,12 @@ use Rattle.ft_model.specs.declared.call.ListCall.TheVariants as list
 use Rattle.ft_bank.specs.Passes.{shape_of, view}
 use Rattle.ft_model.specs.declared.call.Call.{Call}
 use Rattle.ft_bank.specs.Answered.{Answered}
-use Rattle.ft_list.specs.ListGrowth.{AddsItems}
 use Rattle.ft_list.specs.ListMaking.{ListCallMakes}
 use Rattle.ft_list.proofs.ListTries.{list_added, list_cleared, list_copied, list_made, list_read}
 use Rattle.ft_list.proofs.making.make_list.Goals as goal
 
-pub returns-in-Insert-clause-making : goal.returns-in-Insert-clause-making
-returns-in-Insert-clause-making c = let e = c.insert_by.ensures in list_added (shape_of c.args.bank.now) c.args.l _ (list.Insert (to_z w64 (of_z w64 c.in-Insert.index)) c.in-Insert.value) c.insert_by.result c.requires.making e.pass e.stack e.added
-
 pub returns-in-Extend-clause-making : goal.returns-in-Extend-clause-making
 returns-in-Extend-clause-making c = let e = c.extend_by.ensures in list_added (shape_of c.args.bank.now) c.args.l _ (list.Extend c.in-Extend.other) c.extend_by.result c.requires.making e.pass e.stack e.added
-
-pub returns-in-Set-clause-making : goal.returns-in-Set-clause-making
-returns-in-Set-clause-making c = let e = c.set_locked.ensures in list_made c.requires.making e.pass e.stack e.made
 
 pub returns-in-Del-clause-making : goal.returns-in-Del-clause-making
 returns-in-Del-clause-making c = let e = c.del_locked.ensures in list_made c.requires.making e.pass e.stack e.made
@@ -36,17 +29,6 @@ returns-in-Reverse-clause-making c = let e = c.reverse_locked.ensures in list_ma
 
 pub returns-in-Clear-clause-making : goal.returns-in-Clear-clause-making
 returns-in-Clear-clause-making c = let e = c.clear_by.ensures in list_cleared c.requires.making e.pass e.stack e.cleared
-
-pub returns-in-Insert-clause-made : goal.returns-in-Insert-clause-made
-returns-in-Insert-clause-made c =
-    let k = shape_of c.args.bank.now in
-    let l = c.args.l in
-    let v = view c.args.pass.now in
-    let w = view c.insert_by.new.pass in
-    let fits : SFits w64 c.in-Insert.index = search rules in
-    let same = to_z-of_z {w = w64} {z = c.in-Insert.index} fits in
-    subst (λ (lc : ListCall). ListCallMakes k l lc c.after.result v w) (sym c.in-Insert.is)
-    (c.insert_by.result, sym c.after.ensures, subst (λ (i : ℤ). AddsItems k l (call.List l (list.Insert i c.in-Insert.value)) 1 v w c.insert_by.result) same c.insert_by.ensures.added, c.insert_by.ensures.cursors)
 
 pub returns-in-Index-clause-making : goal.returns-in-Index-clause-making
 returns-in-Index-clause-making c = let e = c.index_locked.ensures in list_made c.requires.making e.pass e.stack e.made
@@ -74,3 +56,14 @@ returns-in-Len-clause-making c =
     let e = c.len_locked.ensures in
     let is = c.requires.call ∙ ap (λ (lc : ListCall). call.List c.args.l lc) c.in-Len.is in
     list_read c.requires.making e.pass e.sections (subst (λ (x : Call). Answered x c.len_locked.result.0 c.len_locked.result.1.number (view c.args.pass.now) (view c.len_locked.new.pass)) is e.answered)
+
+pub returns-in-Insert-clause-made : goal.returns-in-Insert-clause-made
+returns-in-Insert-clause-made c =
+    let k = shape_of c.args.bank.now in
+    let l = c.args.l in
+    let v = view c.args.pass.now in
+    let w = view c.insert.new.pass in
+    let fits : SFits w64 c.in-Insert.index = search rules in
+    let same = to_z-of_z {w = w64} {z = c.in-Insert.index} fits in
+    subst (λ (lc : ListCall). ListCallMakes k l lc c.insert.result v w) (sym c.in-Insert.is)
+    (subst (λ (i : ℤ). ListCallMakes k l (list.Insert i c.in-Insert.value) c.insert.result v w) same c.insert.ensures.made)

@@ -97,4 +97,4 @@ returns-clause-put c =
     let v = view a.pass.now in
     let w = view c.add_in_room-number.new.pass in
     let e = c.add_in_room-number.ensures in
-    (refl, refl, record { wrote = e.wrote; root = subst (λ (n : ℕ). root_in (held_unboxed n w) ≡ root_in (held_unboxed n v)) (sym c.requires.adds.changed) e.root; there = e.there })
+    (refl, refl, record { wrote = e.wrote; root = subst (λ (n : ℕ). root_in (held_unboxed n w) ≡ root_in (held_unboxed n v)) (sym c.requires.adds.changed) e.root; references = e.there })

@@ -154,7 +154,7 @@ returns-in-Taken-clause-put c =
         done = done;
         wrote = w.wrote;
         root = subst (λ (n : ℕ). root_in (held_unboxed n done) ≡ suc (table_id c.in-Taken.table)) (sym at) w.root;
-        there = w.there;
+        references = w.there;
         retired = subst (λ (n : ℕ). Retires n done (view c.retire_old.new.pass)) (sym (grow d).keyed.root ∙ sym (ap (λ (n : ℕ). root_in (held_unboxed n u)) at)) c.retire_old.ensures.retired;
       },
     )

@@ -1,4 +1,4 @@
-use Rattle.std.proofs.Common.{◌≡◌, ℕ, ◌+◌, ◌*◌, ◌%◌, ◌<◌, cond, eqb, Option, Some, None, true, refl, sym, ap, ◌∙◌, subst, arith}
+use Rattle.std.proofs.Common.{◌≡◌, ℕ, ◌+◌, ◌*◌, ◌%◌, ◌<◌, cond, eqb, Option, Some, true, refl, sym, ap, ◌∙◌, subst, arith}
 use Rattle.std.specs.Prelude.{slice_index}
 use Rattle.std.specs.Option.{unwrap_or}
 use Rattle.ft_layout.specs.declared.slot.Ref.{Ref}
@@ -8,13 +8,11 @@ use Rattle.ft_trace.specs.Addresses.{class_of, slots}
 use Rattle.ft_trace.specs.Boxes.{knows_box_word, names_box, references_held}
 use Rattle.ft_trace.specs.ContainerStates.{kind_in}
 use Rattle.ft_trace.specs.Holds.{held_words, held_unboxed}
-use Rattle.ft_trace.specs.Kinds.{rows, version_at, IsKeyed}
-use Rattle.ft_trace.specs.Pictures.{ContainerWords, entry_field, entry_offset}
+use Rattle.ft_trace.specs.Kinds.{rows, IsKeyed}
+use Rattle.ft_trace.specs.Pictures.{entry_offset}
 use Rattle.ft_bank.specs.BoxSteps.{box_id, kind_read, payload_read}
 use Rattle.ft_bank.specs.Passes.{shape_of, view}
 use Rattle.ft_bank.specs.TableNames.{table_id}
-use Rattle.ft_bank.specs.WriteSteps.{with_table}
-use Rattle.ft_bank.proofs.KnownAfterWrites.{put_same, put_written}
 use Rattle.ft_search.proofs.Boxing.{entries_of_table, table_of}
 use Rattle.ft_search.proofs.Overs.{boxed_names, other_way}
 use Rattle.ft_search.proofs.Puts.{few_places, few_slots, keyed_value, keyed_version}

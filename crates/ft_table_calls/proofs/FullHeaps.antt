@@ -1,0 +1,31 @@
+-- What the making of a box finds that finds no free place: the heap of the pass is full.
+use Rattle.std.proofs.Common.{◌≡◌, ◌≢◌, ℕ, zero, suc, ◌-◌, ◌/◌, ◌<◌, List, [], ◌∷◌, ◌++◌, refl, sym, ap, ◌∙◌, subst, arith}
+use mathlib.Core.Logic.{dite}
+use native.Mathlib.Decide.{ℕ_discrete}
+use Rattle.ft_trace.specs.declared.Act.{Act}
+use Rattle.ft_trace.specs.declared.Act.TheVariants.{ReadFreePlaces}
+use Rattle.ft_trace.specs.declared.Shape.{Shape}
+use Rattle.ft_trace.specs.declared.View.{View}
+use Rattle.ft_trace.specs.Boxes.{place_use, use_taken}
+use Rattle.ft_trace.specs.Causes.{FoundNoPlace, HeapIsFull}
+use Rattle.ft_bank.specs.SameBoxes.{SameBoxes}
+use Rattle.ft_boxes.specs.Making.{FoundHeapFull, full_loads}
+
+-- among the loads of so many words is that of each
+found_in : (q n i : ℕ) (rest : List Act) → i < n → FoundNoPlace q i (full_loads q n ++ rest)
+found_in q zero i rest low = absurd (omega (arith, low))
+found_in q (suc n) i rest low =
+    dite (ℕ_discrete i n)
+    (λ (e : i ≡ n). subst (λ (z : ℕ). FoundNoPlace q z (full_loads q (suc n) ++ rest)) (sym e) (record { newer = []; rest = full_loads q n ++ rest; is = refl; own = tt; kept = tt }))
+    (λ ne.
+    let f = found_in q n i rest (omega (arith, low, ne)) in
+    record { newer = ReadFreePlaces q n 0 ∷ f.newer; rest = f.rest; is = ap (λ (l : List Act). ReadFreePlaces q n 0 ∷ l) f.is; own = f.own; kept = f.kept })
+
+pub heap_full : (v w : View) → FoundHeapFull v w → SameBoxes v w → w.shape ≡ v.shape → w.number ≡ v.number → ((b : ℕ) → place_use b v.log ≢ use_taken) → HeapIsFull w.shape w.number w.log
+heap_full v w found same shape number untaken = record {
+  words = λ i low.
+      let within : i < v.shape.heap / 64 = subst (λ (k : Shape). i < k.heap / 64) shape low in
+      subst (λ (z : ℕ). FoundNoPlace (z - 1) i w.log) (sym number)
+      (subst (FoundNoPlace (v.number - 1) i) (sym found) (found_in (v.number - 1) (v.shape.heap / 64) i v.log within));
+  untaken = λ b taken. untaken b (sym (same.made.uses b) ∙ taken);
+}

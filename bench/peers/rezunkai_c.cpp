@@ -1,5 +1,5 @@
 // This library from C: the calls of c/rezunkai.h, with rez_dict_get and rez_dict_set on a dict, and rez_call elsewhere.
-// A session has 64 places for boxes, so dicts of a thousand values in boxes can't be had.
+// Workloads of values in boxes aren't among them.
 #include "streams.hpp"
 #include "rezunkai.h"
 

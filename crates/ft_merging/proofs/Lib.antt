@@ -17,3 +17,4 @@ pub mod JoinedCalls
 pub mod JoinedSame
 pub mod JoinedSearch
 pub mod Pairs
+pub mod SharedValues

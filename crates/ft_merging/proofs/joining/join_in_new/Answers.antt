@@ -14,6 +14,7 @@ use Rattle.ft_bank.proofs.KnownAfterWrites.{put_written, work_knows, written_the
 use Rattle.ft_bank.specs.Whole.{OnlyWritten}
 use Rattle.ft_search.specs.Rounds.{kind_by}
 use Rattle.ft_search.proofs.Changing.{kind_is}
+use Rattle.ft_search.proofs.Overs.{held_same}
 use Rattle.ft_new_keys.specs.KeyGrowth.{MayGrowKeyed}
 use Rattle.ft_new_keys.proofs.FinishedKeys.{since_root}
 use Rattle.ft_new_keys.proofs.Grown.{filled_has, grow_begins, grow_filled, grown_wrote, knows_filled, same_filled, words_filled}
@@ -199,3 +200,14 @@ returns-clause-references c =
     let z = view c.put_counts.new.pass in
     let begun = refs_then v x y c.move_entries.ensures.only.references c.begin_in.ensures.references in
     refs_then v z (view c.join_table.new.pass) (refs_then v y z begun c.put_counts.ensures.references) c.join_table.ensures.references
+
+-- the pass holds no reference
+pub join_table-requires-clause-none : goal.join_table-requires-clause-none
+join_table-requires-clause-none c b =
+    let a = c.args in
+    let v = view a.pass.now in
+    let x = view c.move_entries.new.pass in
+    let y = view c.begin_in.new.pass in
+    let z = view c.put_counts.new.pass in
+    let all = refs_then v y z (refs_then v x y c.move_entries.ensures.only.references c.begin_in.ensures.references) c.put_counts.ensures.references in
+    held_same (shape_of a.bank.now) v z c.requires.pass.1 c.put_counts.ensures.pass.1 all b ∙ c.requires.may.boxes.none b

@@ -1,4 +1,4 @@
-use Rattle.std.proofs.Common.{◌≡◌, ◌<◌, ◌+◌, ℕ, false, Some, None, refl, sym, ap, ◌∙◌, subst, arith, []}
+use Rattle.std.proofs.Common.{◌≡◌, ◌<◌, ◌+◌, ◌%◌, ℕ, false, Some, None, refl, sym, ap, ◌∙◌, subst, arith, []}
 use Rattle.std.specs.Prelude.{pos, slice_index_or}
 use Rattle.ft_model.specs.declared.content.Content.{Content}
 use Rattle.ft_model.specs.declared.data.Key.{Key}
@@ -7,7 +7,7 @@ use Rattle.ft_model.specs.Worlds.{kind_of}
 use Rattle.ft_model.specs.declared.script.Kind.{Kind}
 use Rattle.ft_model.specs.declared.script.Kind.TheVariants as kind
 use Rattle.ft_layout.specs.Tables.{UsedEntry, hash_of, slot_of}
-use Rattle.ft_layout.specs.Words.{FitsKey, FitsStored}
+use Rattle.ft_layout.specs.Words.{FitsKey, FitsStored, IsStored, stored_kind, stored_payload}
 use Rattle.ft_layout.specs.declared.slot.Stored.{Stored}
 use Rattle.ft_layout.specs.declared.slot.Stored.TheVariants.{Boxed, Empty, Plain}
 use Rattle.ft_trace.specs.declared.Shape.{Shape}
@@ -38,9 +38,10 @@ use Rattle.ft_merging.proofs.Ending.{read_same}
 use Rattle.ft_merging.proofs.Joined.{inside, joining_dead, joining_loaded, joining_may, joining_new, joining_there, new_room, stores, there_low}
 use Rattle.ft_merging.proofs.JoinedPairs.{source_known}
 use Rattle.ft_merging.proofs.JoinedReads.{entry_used, none_found, none_used, pair_used}
-use Rattle.ft_merging.proofs.JoinedStep.{others_same, unused_here}
+use Rattle.ft_merging.proofs.JoinedStep.{new_reads, others_same, unused_here}
+use Rattle.ft_merging.proofs.SharedValues.{pair_reads}
 use Rattle.ft_merging.proofs.putting.join_at.Goals as goal
-use Rattle.ft_merging.proofs.putting.join_at.Goals.{After-pair_at, After-seek_in, After-words_follow_a_set, In-Some}
+use Rattle.ft_merging.proofs.putting.join_at.Goals.{After-pair_at, After-seek_in, After-share_value-arg-1, After-words_follow_a_set, In-Some}
 
 -- loads change no words
 same_below : (t place : ℕ) (v w : View) (o : ℕ) → held_unboxed o w ≡ held_unboxed o v → KeepsBelow t place (held_unboxed o v) (held_unboxed o w)
@@ -318,7 +319,8 @@ returns-in-Free-clause-joining c =
     let k = shape_of a.bank.now in
     let v = view a.pass.now in
     let u = view c.seek_in.new.pass in
-    let z = view c.put_key.new.pass in
+    let put = view c.put_key.new.pass in
+    let z = view c.share_value.new.pass in
     let at = goal.at.returns-in-Free-clause-joining c in
     let d = at.After-words_follow_a_set in
     let s = at.After-seek_in in
@@ -328,14 +330,14 @@ returns-in-Free-clause-joining c =
     let e = c.put_key.ensures in
     let key = c.in-Some.pair.key in
     let stored = c.in-Some.pair.value in
-    let only = written_then a.o v u z (put_written a.o v u (loaded_put v u a.o (loads s))) e.only in
+    let only = written_then a.o v put z (written_then a.o v u put (put_written a.o v u (loaded_put v u a.o (loads s))) e.only) c.share_value.ensures.only in
     let same = held_on s in
     let other = (only.others a.t (subst (λ (y : Shape). a.t < container_count y) (sym c.requires.pass.1) c.requires.other.container) (λ eq. c.requires.two (sym eq)) c.requires.other.locked c.requires.other.even).1 in
     let hash = p.2 in
     let next = j.next_is in
-    let words : held_unboxed a.o z ≡ with_entry (table_id a.own) c.in-Free.slot a.counts (pair_for k.texts j.mid key stored) (held_unboxed a.o v) = e.words ∙ (λ i. with_entry (table_id a.own) c.in-Free.slot a.counts (record { hash = hash i; key = key; value = stored; serial = next i }) (same i)) in
+    let words : held_unboxed a.o z ≡ with_entry (table_id a.own) c.in-Free.slot a.counts (pair_for k.texts j.mid key stored) (held_unboxed a.o v) = c.share_value.ensures.words ∙ (e.words ∙ (λ i. with_entry (table_id a.own) c.in-Free.slot a.counts (record { hash = hash i; key = key; value = stored; serial = next i }) (same i))) in
     subst (λ (y : Counts). IsJoining k a.o a.way a.own a.t a.table (done d) a.end (a.place + 1) y z) (sym c.one_more.ensures)
-    (joining_new k a.o a.way a.own a.t a.table (done d) a.end a.place a.counts v j c.requires.place any key stored p.1 p.0 f.1 (laws d) c.in-Free.slot p.3 c.seek_in.ensures.low p.4 f.0 z only words e.writes other)
+    (joining_new k a.o a.way a.own a.t a.table (done d) a.end a.place a.counts v j c.requires.place any key stored p.1 p.0 f.1 (laws d) c.in-Free.slot p.3 c.seek_in.ensures.low p.4 f.0 z only words c.share_value.ensures.writes other)
 
 pub returns-in-Free-clause-more : goal.returns-in-Free-clause-more
 returns-in-Free-clause-more c = let f : c.one_more.result.fill ≡ c.args.counts.fill + 1 = ap (λ (z : Counts). z.fill) c.one_more.ensures in omega (arith, f)
@@ -355,7 +357,7 @@ returns-in-Free-clause-keeps c sets q w less few =
     let same = held_on at.After-seek_in in
     let hash = p.2 in
     let next = j.next_is in
-    let words : held_unboxed a.o (view c.put_key.new.pass) ≡ with_entry (table_id a.own) c.in-Free.slot a.counts (pair_for k.texts j.mid key stored) (held_unboxed a.o v) = c.put_key.ensures.words ∙ (λ i. with_entry (table_id a.own) c.in-Free.slot a.counts (record { hash = hash i; key = key; value = stored; serial = next i }) (same i)) in
+    let words : held_unboxed a.o (view c.share_value.new.pass) ≡ with_entry (table_id a.own) c.in-Free.slot a.counts (pair_for k.texts j.mid key stored) (held_unboxed a.o v) = c.share_value.ensures.words ∙ (c.put_key.ensures.words ∙ (λ i. with_entry (table_id a.own) c.in-Free.slot a.counts (record { hash = hash i; key = key; value = stored; serial = next i }) (same i))) in
     let ok = stores k a.o a.way a.own a.t a.table (done d) a.end a.place a.counts v j c.requires.place any key stored p.1 p.0 in
     let room = new_room k a.o a.way a.own a.t a.table (done d) a.end a.place a.counts v j c.requires.place any key stored p.1 p.0 f.1 in
     ap (λ (x : ContainerWords). entry_field (slots (class_of (table_id a.own))) x.table q w) words
@@ -365,7 +367,98 @@ pub returns-in-Free-clause-only : goal.returns-in-Free-clause-only
 returns-in-Free-clause-only c =
     let v = view c.args.pass.now in
     let u = view c.seek_in.new.pass in
-    written_then c.args.o v u (view c.put_key.new.pass) (put_written c.args.o v u (loaded_put v u c.args.o (loads (goal.at.returns-in-Free-clause-only c).After-seek_in))) c.put_key.ensures.only
+    let put = view c.put_key.new.pass in
+    written_then c.args.o v put (view c.share_value.new.pass) (written_then c.args.o v u put (put_written c.args.o v u (loaded_put v u c.args.o (loads (goal.at.returns-in-Free-clause-only c).After-seek_in))) c.put_key.ensures.only) c.share_value.ensures.only
 
 pub returns-in-Free-clause-references : goal.returns-in-Free-clause-references
-returns-in-Free-clause-references c b = c.put_key.ensures.references b ∙ (loads (goal.at.returns-in-Free-clause-references c).After-seek_in).boxes.references b
+returns-in-Free-clause-references c b = c.share_value.ensures.references b ∙ (c.put_key.ensures.references b ∙ (loads (goal.at.returns-in-Free-clause-references c).After-seek_in).boxes.references b)
+
+-- ---- the value in a box
+
+-- the entry of the other container
+place_low : (c : After-words_follow_a_set) → c.args.place < rows (kind_in (shape_of c.args.bank.now).starts c.args.t) (class_of (table_id c.args.table))
+place_low c =
+    let a = c.args in
+    let s = source_known (record { pairs = c.used_entries_follow_a_dict.ensures.first; elements = c.used_entries_follow_a_set.ensures.first }) (shape_of a.bank.now) a.t a.table (view a.pass.now) c.requires.pass.1 a.pass.now.possible c.requires.other a.way c.requires.other_way in
+    let few = s.few in
+    let low = c.requires.place in
+    subst (λ (z : Kind). a.place < rows z (class_of (table_id a.table))) (sym c.requires.other_way) (omega (arith, few, low))
+
+reads_pair : (c : In-Some) → IsStored (entry_field (slots (class_of (table_id c.args.table))) (held_unboxed c.args.t (view c.args.pass.now)).table c.args.place 4) (entry_field (slots (class_of (table_id c.args.table))) (held_unboxed c.args.t (view c.args.pass.now)).table c.args.place 5) c.in-Some.pair.value
+reads_pair c =
+    let a = c.args in
+    let k = shape_of a.bank.now in
+    let j = c.requires.joining in
+    let low = inside k a.o a.way a.own a.t a.table _ a.end a.place a.counts (view a.pass.now) j c.requires.place any in
+    let entry = entry_used a.way k.texts k a.table (c.requires.other.table_in a.table refl) j.used (held_unboxed a.t (view a.pass.now)).table j.source a.place any low in
+    pair_reads k.texts (slice_index_or j.used a.place any) c.pair_at.result (c.pair_at.ensures.pair (slot_of k.texts (slice_index_or j.used a.place any)) entry)
+    (entry_field (slots (class_of (table_id a.table))) (held_unboxed a.t (view a.pass.now)).table a.place) entry c.in-Some.pair c.in-Some.is
+
+pub put_stored-requires-clause-from : goal.put_stored-requires-clause-from
+put_stored-requires-clause-from c = place_low (goal.at.put_stored-requires-clause-from c).After-words_follow_a_set
+
+pub put_stored-requires-clause-reads : goal.put_stored-requires-clause-reads
+put_stored-requires-clause-reads c =
+    let a = c.args in
+    let d = goal.at.put_stored-requires-clause-reads c in
+    let same : held_unboxed a.t (view c.seek_in.new.pass) ≡ held_unboxed a.t (view a.pass.now) = read_same (shape_of a.bank.now) a.t (view a.pass.now) (view c.seek_in.new.pass) c.requires.pass.1 c.requires.other.container c.requires.other.locked (loads d.After-seek_in) in
+    subst (λ (x : ContainerWords). IsStored (entry_field (slots (class_of (table_id a.table))) x.table a.place 4) (entry_field (slots (class_of (table_id a.table))) x.table a.place 5) c.in-Some.pair.value) (sym same) (reads_pair d.In-Some)
+
+pub share_value-requires-clause-from : goal.share_value-requires-clause-from
+share_value-requires-clause-from c = place_low (goal.at.share_value-requires-clause-from c).After-words_follow_a_set
+
+pub share_value-requires-clause-to : goal.share_value-requires-clause-to
+share_value-requires-clause-to c =
+    let a = c.args in
+    let at = goal.at.share_value-requires-clause-to c in
+    let p = there at.In-Some in
+    let f = came at.After-seek_in c.in-Some.pair.key (spot.Free c.in-Free.field-0 c.in-Free.slot) c.in-Free.ensures.spot in
+    new_room (shape_of a.bank.now) a.o a.way a.own a.t a.table (done at.After-words_follow_a_set) a.end a.place a.counts (view a.pass.now) c.requires.joining c.requires.place any c.in-Some.pair.key c.in-Some.pair.value p.1 p.0 f.1
+
+-- what the new entry reads
+new_there : (c : After-share_value-arg-1) → (entry_field (slots (class_of (table_id c.args.own))) (held_unboxed c.args.o (view c.put_key.new.pass)).table c.args.counts.fill 0 % 2 ≡ 1) × (entry_field (slots (class_of (table_id c.args.own))) (held_unboxed c.args.o (view c.put_key.new.pass)).table c.args.counts.fill 4 ≡ stored_kind c.in-Some.pair.value) × (entry_field (slots (class_of (table_id c.args.own))) (held_unboxed c.args.o (view c.put_key.new.pass)).table c.args.counts.fill 5 ≡ stored_payload c.in-Some.pair.value)
+new_there c =
+    let a = c.args in
+    let k = shape_of a.bank.now in
+    let v = view a.pass.now in
+    let at = goal.at.share_value-requires-clause-odd c in
+    let d = at.After-words_follow_a_set in
+    let j = c.requires.joining in
+    let p = there at.In-Some in
+    let f = came at.After-seek_in c.in-Some.pair.key (spot.Free c.in-Free.field-0 c.in-Free.slot) c.in-Free.ensures.spot in
+    let key = c.in-Some.pair.key in
+    let stored = c.in-Some.pair.value in
+    let n = slots (class_of (table_id a.own)) in
+    let same = held_on at.After-seek_in in
+    let hash = p.2 in
+    let next = j.next_is in
+    let words : held_unboxed a.o (view c.put_key.new.pass) ≡ with_entry (table_id a.own) c.in-Free.slot a.counts (pair_for k.texts j.mid key stored) (held_unboxed a.o v) = c.put_key.ensures.words ∙ (λ i. with_entry (table_id a.own) c.in-Free.slot a.counts (record { hash = hash i; key = key; value = stored; serial = next i }) (same i)) in
+    let ok = stores k a.o a.way a.own a.t a.table (done d) a.end a.place a.counts v j c.requires.place any key stored p.1 p.0 in
+    let room = new_room k a.o a.way a.own a.t a.table (done d) a.end a.place a.counts v j c.requires.place any key stored p.1 p.0 f.1 in
+    subst (λ (x : ContainerWords). (entry_field n x.table a.counts.fill 0 % 2 ≡ 1) × (entry_field n x.table a.counts.fill 4 ≡ stored_kind stored) × (entry_field n x.table a.counts.fill 5 ≡ stored_payload stored)) (sym words)
+    (new_reads (laws d) k a.o a.way a.own j.mid a.counts v j.midway j.same_kind j.kind_is j.count_is j.alive c.in-Free.slot key stored p.3 c.seek_in.ensures.low ok p.4 f.1 f.0 (subst (λ (z : Kind). a.counts.fill < rows z (class_of (table_id a.own))) j.kind_is room))
+
+-- the other entry reads the same still
+other_put : (c : After-share_value-arg-1) → held_unboxed c.args.t (view c.put_key.new.pass) ≡ held_unboxed c.args.t (view c.args.pass.now)
+other_put c =
+    let a = c.args in
+    let v = view a.pass.now in
+    let u = view c.seek_in.new.pass in
+    let at = goal.at.share_value-requires-clause-odd c in
+    let only = written_then a.o v u (view c.put_key.new.pass) (put_written a.o v u (loaded_put v u a.o (loads at.After-seek_in))) c.put_key.ensures.only in
+    (only.others a.t (subst (λ (y : Shape). a.t < container_count y) (sym c.requires.pass.1) c.requires.other.container) (λ eq. c.requires.two (sym eq)) c.requires.other.locked c.requires.other.even).1
+
+pub share_value-requires-clause-odd : goal.share_value-requires-clause-odd
+share_value-requires-clause-odd c = (new_there c).0
+
+pub share_value-requires-clause-kind : goal.share_value-requires-clause-kind
+share_value-requires-clause-kind c =
+    let a = c.args in
+    let d = goal.at.share_value-requires-clause-kind c in
+    (new_there c).1 ∙ (sym (reads_pair d.In-Some).kind_is ∙ sym (ap (λ (x : ContainerWords). entry_field (slots (class_of (table_id a.table))) x.table a.place 4) (other_put c)))
+
+pub share_value-requires-clause-payload : goal.share_value-requires-clause-payload
+share_value-requires-clause-payload c =
+    let a = c.args in
+    let d = goal.at.share_value-requires-clause-payload c in
+    (new_there c).2 ∙ (sym (reads_pair d.In-Some).payload_is ∙ sym (ap (λ (x : ContainerWords). entry_field (slots (class_of (table_id a.table))) x.table a.place 5) (other_put c)))

@@ -55,7 +55,7 @@ use Rattle.ft_section.specs.Ready.{IsStill}
 use Rattle.ft_search.specs.Floors.{LooksWithFloor}
 use Rattle.ft_search.specs.Rounds.{kind_by}
 use Rattle.ft_search.proofs.ReadMidst.{still_loaded}
-use Rattle.ft_search.proofs.Rounding.{looks_append, looks_did}
+use Rattle.ft_search.proofs.LoadedLooks.{looks_append, looks_did}
 use Rattle.ft_search.specs.KeyLooks.{AreLooks}
 use Rattle.ft_search.proofs.Running.{did_log, did_none, did_trans}
 use Rattle.ft_search.proofs.Undisturbed.{among_found}

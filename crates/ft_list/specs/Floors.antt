@@ -8,11 +8,11 @@ use Rattle.ft_trace.specs.Kinds.{IsItems}
 use Rattle.ft_trace.specs.Traces.{IsReachable}
 use Rattle.ft_trace.specs.ContainerStates.{kind_in}
 use Rattle.ft_search.specs.Floors.{LooksWithFloor}
-use Rattle.ft_list.specs.ItemLooks.{StopsItemLook}
+use Rattle.ft_list.specs.ItemLooks.{StopsItemByVersion}
 
 -- no version of an item stops them, and none of the list
 abbrev pub FloorItemsStand : Type 0
 FloorItemsStand =
     (w : View) (part : List Act) → IsReachable w → LooksWithFloor w part → (o index a b : ℕ)
     → o < container_count w.shape
-    → IsItems (kind_in w.shape.starts o) → StopsItemLook o index a b part → ⊥
+    → IsItems (kind_in w.shape.starts o) → StopsItemByVersion o index a b part → ⊥

@@ -9,7 +9,7 @@ use Rattle.ft_trace.specs.Kinds.{IsKeyed}
 use Rattle.ft_trace.specs.Traces.{IsReachable}
 use Rattle.ft_trace.specs.ContainerStates.{kind_in}
 use Rattle.ft_search.specs.Lengths.{StopsAtVersion}
-use Rattle.ft_search.specs.KeyLooks.{AreLooks, Stops}
+use Rattle.ft_search.specs.KeyLooks.{AreLooks, StopsByVersion}
 
 -- the last actions of a pass that has the floor and writes no container were these loads
 pub record LooksWithFloor (w : View) (part : List Act) : Type 0 where
@@ -25,8 +25,8 @@ FloorVersionsStand =
     (w : View) (part : List Act) → IsReachable w → LooksWithFloor w part → (o a b : ℕ) → o < container_count w.shape
     → StopsAtVersion o a b part → ⊥
 
--- nor does an entry of a key
+-- nor does the version of an entry of a key
 abbrev pub FloorEntriesStand : Type 0
 FloorEntriesStand =
     (w : View) (part : List Act) → IsReachable w → LooksWithFloor w part → (o : ℕ) (key : Key) (a b : ℕ)
-    → o < container_count w.shape → IsKeyed (kind_in w.shape.starts o) → Stops w.shape o key a b part → ⊥
+    → o < container_count w.shape → IsKeyed (kind_in w.shape.starts o) → StopsByVersion w.shape o key a b part → ⊥

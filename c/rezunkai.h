@@ -44,9 +44,10 @@
  *
  * BOXED VALUES
  *     An integer outside -5..256 or a string takes a place of the session that stores it with REZ_D_SET, REZ_D_SETDEFAULT,
- *     REZ_L_APPEND, REZ_L_INSERT or REZ_L_SET. Where all of its places are in use, the call raises REZ_MEMORY_HEAP. The place
- *     is free again once no container has the value: at once where the session itself dropped it, and else at the latest with
- *     its next REZ_QUIESCE or rez_leave.
+ *     REZ_L_APPEND, REZ_L_INSERT or REZ_L_SET. Where all of its places are in use, the call raises REZ_MEMORY_HEAP. With
+ *     REZ_L_EXTEND, REZ_D_UPDATE and REZ_D_COPYTO another container has the value in the same place. The place is free again once no
+ *     container has it: at once where the session alone brought the value to containers and let it go, and else at the latest
+ *     with its next REZ_QUIESCE or rez_leave.
  *
  * WHAT IS PROVED
  *     The library is proved: it is memory-safe and each export ends, given handles as rez_open fills them, one call at a

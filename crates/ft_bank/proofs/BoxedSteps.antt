@@ -1,5 +1,5 @@
 -- What steps leave of what a pass has to do with boxes, and of what the words that it knows read through them.
-use Rattle.std.proofs.Common.{◌≡◌, ◌≢◌, ◌⊎◌, ℕ, ◌+◌, ◌<◌, eqb, Bool, true, false, cond, List, ◌∷◌, refl, sym, ap, ◌∙◌, subst, inr, arith, ⊎_elim, le_refl}
+use Rattle.std.proofs.Common.{◌≡◌, ◌≢◌, ◌⊎◌, ℕ, ◌+◌, ◌<◌, ◌≤◌, eqb, Bool, true, false, cond, List, ◌∷◌, refl, sym, ap, ◌∙◌, subst, inr, arith, ⊎_elim, le_refl}
 use Rattle.ft_model.specs.declared.call.Call.{Call}
 use Rattle.ft_trace.specs.declared.Act.{Act}
 use Rattle.ft_trace.specs.declared.Act.TheVariants.{PutBlock, ReadFreePlaces, TakePlace, PutBox, PublishBox, ReadBox, RaiseLocal, DropLocal, ClearLocal, MergeCounts, RaiseShared, RaiseKept, DropShared, GivePlace}
@@ -20,7 +20,7 @@ use Rattle.ft_trace.proofs.OneWord.{stays, loaded}
 use Rattle.ft_trace.proofs.Sums.{sum_same}
 use Rattle.ft_trace.proofs.Unboxed.{read_stays}
 use Rattle.ft_bank.specs.Rules.{Acted}
-use Rattle.ft_bank.specs.SameBoxes.{KnowsBoxes, SameBoxes, SameMade}
+use Rattle.ft_bank.specs.SameBoxes.{KnowsBoxes, SameBoxes, SameMade, times_raised, times_raised_next}
 use Rattle.ft_bank.specs.Whole.{SameWork, OnlyBoxed, OnlyLoaded}
 use Rattle.ft_bank.proofs.Allowed.{acted_knows}
 
@@ -45,6 +45,7 @@ pub record LeavesBoxes (a : Act) : Type 0 where
   pub taken : (b l n : ℕ) → taken_out_next b a l n ≡ n
   pub places : (b n : ℕ) → place_to_give_next b a n ≡ n
   pub uses : (b n : ℕ) → place_use_next b a n ≡ n
+  pub raised : (b n : ℕ) → times_raised_next b a n ≡ n
 
 by_lock : (x : Bool) (m n : ℕ) → (x ≡ true → m ≡ n) → cond x m 0 ≡ cond x n 0
 by_lock true m n same = same refl
@@ -91,6 +92,7 @@ module _ (v : View) (a : Act) (leaves : LeavesBoxes a) (d : Acted v a) where
     taken = λ b. leaves.taken b (local_count b v.log) (taken_out b v.log);
     places = λ b. leaves.places b (place_to_give b v.log);
     uses = λ b. leaves.uses b (place_use b v.log);
+    raised = λ b. leaves.raised b (times_raised b v.log);
   }
 
   same_by : ((b i : ℕ) → IsBoxName k b → i < 4 → word k (did d.1 v a ∷ d.0) (box_word b i) ≡ word k d.0 (box_word b i)) → SameBoxes v (view_after a v)
@@ -108,7 +110,7 @@ module _ (v : View) (a : Act) (leaves : LeavesBoxes a) (d : Acted v a) where
   same_loaded loads = same_by (λ b i is low. loaded k d.0 d.1 v a loads (box_word b i))
 
 block_leaves : (o i x : ℕ) → LeavesBoxes (PutBlock o i x)
-block_leaves o i x = record { lock = λ p b. refl; unput = λ z. z; references = λ k b n before after. refl; state = λ b n. refl; local = λ b n. refl; taken = λ b l n. refl; places = λ b n. refl; uses = λ b n. refl }
+block_leaves o i x = record { lock = λ p b. refl; unput = λ z. z; references = λ k b n before after. refl; state = λ b n. refl; local = λ b n. refl; taken = λ b l n. refl; places = λ b n. refl; uses = λ b n. refl; raised = λ b n. refl }
 
 pub block_boxes : (v : View) (o i x : ℕ) → Acted v (PutBlock o i x) → SameBoxes v (view_after (PutBlock o i x) v)
 block_boxes v o i x d = same_boxes v (PutBlock o i x) (block_leaves o i x) d (λ b j e. absurd (cc))
@@ -116,7 +118,7 @@ block_boxes v o i x d = same_boxes v (PutBlock o i x) (block_leaves o i x) d (λ
 -- ---- one after the other
 
 pub made_same : (v : View) → SameMade v v
-made_same v = record { state = λ b. refl; local = λ b. refl; taken = λ b. refl; places = λ b. refl; uses = λ b. refl }
+made_same v = record { state = λ b. refl; local = λ b. refl; taken = λ b. refl; places = λ b. refl; uses = λ b. refl; raised = λ b. refl }
 
 pub made_then : (u v w : View) → SameMade u v → SameMade v w → SameMade u w
 made_then u v w a b = record {
@@ -125,6 +127,7 @@ made_then u v w a b = record {
   taken = λ c. b.taken c ∙ a.taken c;
   places = λ c. b.places c ∙ a.places c;
   uses = λ c. b.uses c ∙ a.uses c;
+  raised = λ c. b.raised c ∙ a.raised c;
 }
 
 pub boxes_same : (v : View) → SameBoxes v v
@@ -149,6 +152,7 @@ record OfBoxes (a : Act) : Type 0 where
   lock : (o : ℕ) (b : Bool) → has_lock_next o a b ≡ b
   apart : (k : Shape) (es : List Event) (o : ℕ) → Of k es o (place a) → ⊥
   writes : (cs : List Call) → writes_of a cs ≡ cs
+  raised : (b n : ℕ) → n ≤ times_raised_next b a n
 
 abbrev pub IsOfBoxes : Act → Type 0
 IsOfBoxes (ReadFreePlaces q w f) = Unit {0}
@@ -166,20 +170,28 @@ IsOfBoxes (DropShared b f) = Unit {0}
 IsOfBoxes (GivePlace b) = Unit {0}
 IsOfBoxes act = ⊥
 
+no_less : (x : Bool) (n : ℕ) → n ≤ cond x (n + 1) n
+no_less true n = omega arith
+no_less false n = le_refl n
+
+no_less_met : (x y : Bool) (n : ℕ) → n ≤ cond x (cond y (n + 1) n) n
+no_less_met true y n = no_less y n
+no_less_met false y n = le_refl n
+
 of_boxes : (a : Act) → IsOfBoxes a → OfBoxes a
-of_boxes (ReadFreePlaces q w f) ok = record { work = λ v. record { pass = record { number = refl; next = refl; parts = refl; shape = refl; locks = λ p. refl; writes = λ p. refl; announced = refl; flight = refl; begun = refl; cursors = λ n. refl; tokens = refl; learnt = refl; lists = refl; floor = refl; since = refl; owners = record { had = refl; found = refl }; seen = le_refl (seen_writes v); grown = λ old was. inr was; stays_online = λ is. is }; left = refl; entries = refl; committed = λ p. refl; emptied = λ p. refl; hands = λ t. refl; used = refl; debt = refl; owes = refl; past = refl; presence = refl; tables = refl }; words = λ k m. refl; lock = λ o x. refl; apart = λ k es o z. z; writes = λ cs. refl }
-of_boxes (TakePlace b f) ok = record { work = λ v. record { pass = record { number = refl; next = refl; parts = refl; shape = refl; locks = λ p. refl; writes = λ p. refl; announced = refl; flight = refl; begun = refl; cursors = λ n. refl; tokens = refl; learnt = refl; lists = refl; floor = refl; since = refl; owners = record { had = refl; found = refl }; seen = le_refl (seen_writes v); grown = λ old was. inr was; stays_online = λ is. is }; left = refl; entries = refl; committed = λ p. refl; emptied = λ p. refl; hands = λ t. refl; used = refl; debt = refl; owes = refl; past = refl; presence = refl; tables = refl }; words = λ k m. refl; lock = λ o x. refl; apart = λ k es o z. z; writes = λ cs. refl }
-of_boxes (PutBox b i x) ok = record { work = λ v. record { pass = record { number = refl; next = refl; parts = refl; shape = refl; locks = λ p. refl; writes = λ p. refl; announced = refl; flight = refl; begun = refl; cursors = λ n. refl; tokens = refl; learnt = refl; lists = refl; floor = refl; since = refl; owners = record { had = refl; found = refl }; seen = le_refl (seen_writes v); grown = λ old was. inr was; stays_online = λ is. is }; left = refl; entries = refl; committed = λ p. refl; emptied = λ p. refl; hands = λ t. refl; used = refl; debt = refl; owes = refl; past = refl; presence = refl; tables = refl }; words = λ k m. refl; lock = λ o x. refl; apart = λ k es o z. z; writes = λ cs. refl }
-of_boxes (PublishBox b) ok = record { work = λ v. record { pass = record { number = refl; next = refl; parts = refl; shape = refl; locks = λ p. refl; writes = λ p. refl; announced = refl; flight = refl; begun = refl; cursors = λ n. refl; tokens = refl; learnt = refl; lists = refl; floor = refl; since = refl; owners = record { had = refl; found = refl }; seen = le_refl (seen_writes v); grown = λ old was. inr was; stays_online = λ is. is }; left = refl; entries = refl; committed = λ p. refl; emptied = λ p. refl; hands = λ t. refl; used = refl; debt = refl; owes = refl; past = refl; presence = refl; tables = refl }; words = λ k m. refl; lock = λ o x. refl; apart = λ k es o z. z; writes = λ cs. refl }
-of_boxes (ReadBox b i f) ok = record { work = λ v. record { pass = record { number = refl; next = refl; parts = refl; shape = refl; locks = λ p. refl; writes = λ p. refl; announced = refl; flight = refl; begun = refl; cursors = λ n. refl; tokens = refl; learnt = refl; lists = refl; floor = refl; since = refl; owners = record { had = refl; found = refl }; seen = le_refl (seen_writes v); grown = λ old was. inr was; stays_online = λ is. is }; left = refl; entries = refl; committed = λ p. refl; emptied = λ p. refl; hands = λ t. refl; used = refl; debt = refl; owes = refl; past = refl; presence = refl; tables = refl }; words = λ k m. refl; lock = λ o x. refl; apart = λ k es o z. z; writes = λ cs. refl }
-of_boxes (RaiseLocal b x) ok = record { work = λ v. record { pass = record { number = refl; next = refl; parts = refl; shape = refl; locks = λ p. refl; writes = λ p. refl; announced = refl; flight = refl; begun = refl; cursors = λ n. refl; tokens = refl; learnt = refl; lists = refl; floor = refl; since = refl; owners = record { had = refl; found = refl }; seen = le_refl (seen_writes v); grown = λ old was. inr was; stays_online = λ is. is }; left = refl; entries = refl; committed = λ p. refl; emptied = λ p. refl; hands = λ t. refl; used = refl; debt = refl; owes = refl; past = refl; presence = refl; tables = refl }; words = λ k m. refl; lock = λ o x. refl; apart = λ k es o z. z; writes = λ cs. refl }
-of_boxes (DropLocal b x) ok = record { work = λ v. record { pass = record { number = refl; next = refl; parts = refl; shape = refl; locks = λ p. refl; writes = λ p. refl; announced = refl; flight = refl; begun = refl; cursors = λ n. refl; tokens = refl; learnt = refl; lists = refl; floor = refl; since = refl; owners = record { had = refl; found = refl }; seen = le_refl (seen_writes v); grown = λ old was. inr was; stays_online = λ is. is }; left = refl; entries = refl; committed = λ p. refl; emptied = λ p. refl; hands = λ t. refl; used = refl; debt = refl; owes = refl; past = refl; presence = refl; tables = refl }; words = λ k m. refl; lock = λ o x. refl; apart = λ k es o z. z; writes = λ cs. refl }
-of_boxes (ClearLocal b) ok = record { work = λ v. record { pass = record { number = refl; next = refl; parts = refl; shape = refl; locks = λ p. refl; writes = λ p. refl; announced = refl; flight = refl; begun = refl; cursors = λ n. refl; tokens = refl; learnt = refl; lists = refl; floor = refl; since = refl; owners = record { had = refl; found = refl }; seen = le_refl (seen_writes v); grown = λ old was. inr was; stays_online = λ is. is }; left = refl; entries = refl; committed = λ p. refl; emptied = λ p. refl; hands = λ t. refl; used = refl; debt = refl; owes = refl; past = refl; presence = refl; tables = refl }; words = λ k m. refl; lock = λ o x. refl; apart = λ k es o z. z; writes = λ cs. refl }
-of_boxes (MergeCounts b d f) ok = record { work = λ v. record { pass = record { number = refl; next = refl; parts = refl; shape = refl; locks = λ p. refl; writes = λ p. refl; announced = refl; flight = refl; begun = refl; cursors = λ n. refl; tokens = refl; learnt = refl; lists = refl; floor = refl; since = refl; owners = record { had = refl; found = refl }; seen = le_refl (seen_writes v); grown = λ old was. inr was; stays_online = λ is. is }; left = refl; entries = refl; committed = λ p. refl; emptied = λ p. refl; hands = λ t. refl; used = refl; debt = refl; owes = refl; past = refl; presence = refl; tables = refl }; words = λ k m. refl; lock = λ o x. refl; apart = λ k es o z. z; writes = λ cs. refl }
-of_boxes (RaiseShared b old f) ok = record { work = λ v. record { pass = record { number = refl; next = refl; parts = refl; shape = refl; locks = λ p. refl; writes = λ p. refl; announced = refl; flight = refl; begun = refl; cursors = λ n. refl; tokens = refl; learnt = refl; lists = refl; floor = refl; since = refl; owners = record { had = refl; found = refl }; seen = le_refl (seen_writes v); grown = λ old was. inr was; stays_online = λ is. is }; left = refl; entries = refl; committed = λ p. refl; emptied = λ p. refl; hands = λ t. refl; used = refl; debt = refl; owes = refl; past = refl; presence = refl; tables = refl }; words = λ k m. refl; lock = λ o x. refl; apart = λ k es o z. z; writes = λ cs. refl }
-of_boxes (RaiseKept b f) ok = record { work = λ v. record { pass = record { number = refl; next = refl; parts = refl; shape = refl; locks = λ p. refl; writes = λ p. refl; announced = refl; flight = refl; begun = refl; cursors = λ n. refl; tokens = refl; learnt = refl; lists = refl; floor = refl; since = refl; owners = record { had = refl; found = refl }; seen = le_refl (seen_writes v); grown = λ old was. inr was; stays_online = λ is. is }; left = refl; entries = refl; committed = λ p. refl; emptied = λ p. refl; hands = λ t. refl; used = refl; debt = refl; owes = refl; past = refl; presence = refl; tables = refl }; words = λ k m. refl; lock = λ o x. refl; apart = λ k es o z. z; writes = λ cs. refl }
-of_boxes (DropShared b f) ok = record { work = λ v. record { pass = record { number = refl; next = refl; parts = refl; shape = refl; locks = λ p. refl; writes = λ p. refl; announced = refl; flight = refl; begun = refl; cursors = λ n. refl; tokens = refl; learnt = refl; lists = refl; floor = refl; since = refl; owners = record { had = refl; found = refl }; seen = le_refl (seen_writes v); grown = λ old was. inr was; stays_online = λ is. is }; left = refl; entries = refl; committed = λ p. refl; emptied = λ p. refl; hands = λ t. refl; used = refl; debt = refl; owes = refl; past = refl; presence = refl; tables = refl }; words = λ k m. refl; lock = λ o x. refl; apart = λ k es o z. z; writes = λ cs. refl }
-of_boxes (GivePlace b) ok = record { work = λ v. record { pass = record { number = refl; next = refl; parts = refl; shape = refl; locks = λ p. refl; writes = λ p. refl; announced = refl; flight = refl; begun = refl; cursors = λ n. refl; tokens = refl; learnt = refl; lists = refl; floor = refl; since = refl; owners = record { had = refl; found = refl }; seen = le_refl (seen_writes v); grown = λ old was. inr was; stays_online = λ is. is }; left = refl; entries = refl; committed = λ p. refl; emptied = λ p. refl; hands = λ t. refl; used = refl; debt = refl; owes = refl; past = refl; presence = refl; tables = refl }; words = λ k m. refl; lock = λ o x. refl; apart = λ k es o z. z; writes = λ cs. refl }
+of_boxes (ReadFreePlaces q w f) ok = record { work = λ v. record { pass = record { number = refl; next = refl; parts = refl; shape = refl; locks = λ p. refl; writes = λ p. refl; announced = refl; flight = refl; begun = refl; cursors = λ n. refl; tokens = refl; learnt = refl; lists = refl; floor = refl; since = refl; owners = record { had = refl; found = refl }; seen = le_refl (seen_writes v); grown = λ old was. inr was; stays_online = λ is. is }; left = refl; entries = refl; committed = λ p. refl; emptied = λ p. refl; hands = λ t. refl; used = refl; debt = refl; owes = refl; past = refl; presence = refl; tables = refl }; words = λ k m. refl; lock = λ o x. refl; apart = λ k es o z. z; writes = λ cs. refl; raised = λ p n. le_refl n }
+of_boxes (TakePlace b f) ok = record { work = λ v. record { pass = record { number = refl; next = refl; parts = refl; shape = refl; locks = λ p. refl; writes = λ p. refl; announced = refl; flight = refl; begun = refl; cursors = λ n. refl; tokens = refl; learnt = refl; lists = refl; floor = refl; since = refl; owners = record { had = refl; found = refl }; seen = le_refl (seen_writes v); grown = λ old was. inr was; stays_online = λ is. is }; left = refl; entries = refl; committed = λ p. refl; emptied = λ p. refl; hands = λ t. refl; used = refl; debt = refl; owes = refl; past = refl; presence = refl; tables = refl }; words = λ k m. refl; lock = λ o x. refl; apart = λ k es o z. z; writes = λ cs. refl; raised = λ p n. le_refl n }
+of_boxes (PutBox b i x) ok = record { work = λ v. record { pass = record { number = refl; next = refl; parts = refl; shape = refl; locks = λ p. refl; writes = λ p. refl; announced = refl; flight = refl; begun = refl; cursors = λ n. refl; tokens = refl; learnt = refl; lists = refl; floor = refl; since = refl; owners = record { had = refl; found = refl }; seen = le_refl (seen_writes v); grown = λ old was. inr was; stays_online = λ is. is }; left = refl; entries = refl; committed = λ p. refl; emptied = λ p. refl; hands = λ t. refl; used = refl; debt = refl; owes = refl; past = refl; presence = refl; tables = refl }; words = λ k m. refl; lock = λ o x. refl; apart = λ k es o z. z; writes = λ cs. refl; raised = λ p n. le_refl n }
+of_boxes (PublishBox b) ok = record { work = λ v. record { pass = record { number = refl; next = refl; parts = refl; shape = refl; locks = λ p. refl; writes = λ p. refl; announced = refl; flight = refl; begun = refl; cursors = λ n. refl; tokens = refl; learnt = refl; lists = refl; floor = refl; since = refl; owners = record { had = refl; found = refl }; seen = le_refl (seen_writes v); grown = λ old was. inr was; stays_online = λ is. is }; left = refl; entries = refl; committed = λ p. refl; emptied = λ p. refl; hands = λ t. refl; used = refl; debt = refl; owes = refl; past = refl; presence = refl; tables = refl }; words = λ k m. refl; lock = λ o x. refl; apart = λ k es o z. z; writes = λ cs. refl; raised = λ p n. le_refl n }
+of_boxes (ReadBox b i f) ok = record { work = λ v. record { pass = record { number = refl; next = refl; parts = refl; shape = refl; locks = λ p. refl; writes = λ p. refl; announced = refl; flight = refl; begun = refl; cursors = λ n. refl; tokens = refl; learnt = refl; lists = refl; floor = refl; since = refl; owners = record { had = refl; found = refl }; seen = le_refl (seen_writes v); grown = λ old was. inr was; stays_online = λ is. is }; left = refl; entries = refl; committed = λ p. refl; emptied = λ p. refl; hands = λ t. refl; used = refl; debt = refl; owes = refl; past = refl; presence = refl; tables = refl }; words = λ k m. refl; lock = λ o x. refl; apart = λ k es o z. z; writes = λ cs. refl; raised = λ p n. le_refl n }
+of_boxes (RaiseLocal b x) ok = record { work = λ v. record { pass = record { number = refl; next = refl; parts = refl; shape = refl; locks = λ p. refl; writes = λ p. refl; announced = refl; flight = refl; begun = refl; cursors = λ n. refl; tokens = refl; learnt = refl; lists = refl; floor = refl; since = refl; owners = record { had = refl; found = refl }; seen = le_refl (seen_writes v); grown = λ old was. inr was; stays_online = λ is. is }; left = refl; entries = refl; committed = λ p. refl; emptied = λ p. refl; hands = λ t. refl; used = refl; debt = refl; owes = refl; past = refl; presence = refl; tables = refl }; words = λ k m. refl; lock = λ o x. refl; apart = λ k es o z. z; writes = λ cs. refl; raised = λ p n. no_less (eqb b p) n }
+of_boxes (DropLocal b x) ok = record { work = λ v. record { pass = record { number = refl; next = refl; parts = refl; shape = refl; locks = λ p. refl; writes = λ p. refl; announced = refl; flight = refl; begun = refl; cursors = λ n. refl; tokens = refl; learnt = refl; lists = refl; floor = refl; since = refl; owners = record { had = refl; found = refl }; seen = le_refl (seen_writes v); grown = λ old was. inr was; stays_online = λ is. is }; left = refl; entries = refl; committed = λ p. refl; emptied = λ p. refl; hands = λ t. refl; used = refl; debt = refl; owes = refl; past = refl; presence = refl; tables = refl }; words = λ k m. refl; lock = λ o x. refl; apart = λ k es o z. z; writes = λ cs. refl; raised = λ p n. le_refl n }
+of_boxes (ClearLocal b) ok = record { work = λ v. record { pass = record { number = refl; next = refl; parts = refl; shape = refl; locks = λ p. refl; writes = λ p. refl; announced = refl; flight = refl; begun = refl; cursors = λ n. refl; tokens = refl; learnt = refl; lists = refl; floor = refl; since = refl; owners = record { had = refl; found = refl }; seen = le_refl (seen_writes v); grown = λ old was. inr was; stays_online = λ is. is }; left = refl; entries = refl; committed = λ p. refl; emptied = λ p. refl; hands = λ t. refl; used = refl; debt = refl; owes = refl; past = refl; presence = refl; tables = refl }; words = λ k m. refl; lock = λ o x. refl; apart = λ k es o z. z; writes = λ cs. refl; raised = λ p n. le_refl n }
+of_boxes (MergeCounts b d f) ok = record { work = λ v. record { pass = record { number = refl; next = refl; parts = refl; shape = refl; locks = λ p. refl; writes = λ p. refl; announced = refl; flight = refl; begun = refl; cursors = λ n. refl; tokens = refl; learnt = refl; lists = refl; floor = refl; since = refl; owners = record { had = refl; found = refl }; seen = le_refl (seen_writes v); grown = λ old was. inr was; stays_online = λ is. is }; left = refl; entries = refl; committed = λ p. refl; emptied = λ p. refl; hands = λ t. refl; used = refl; debt = refl; owes = refl; past = refl; presence = refl; tables = refl }; words = λ k m. refl; lock = λ o x. refl; apart = λ k es o z. z; writes = λ cs. refl; raised = λ p n. le_refl n }
+of_boxes (RaiseShared b old f) ok = record { work = λ v. record { pass = record { number = refl; next = refl; parts = refl; shape = refl; locks = λ p. refl; writes = λ p. refl; announced = refl; flight = refl; begun = refl; cursors = λ n. refl; tokens = refl; learnt = refl; lists = refl; floor = refl; since = refl; owners = record { had = refl; found = refl }; seen = le_refl (seen_writes v); grown = λ old was. inr was; stays_online = λ is. is }; left = refl; entries = refl; committed = λ p. refl; emptied = λ p. refl; hands = λ t. refl; used = refl; debt = refl; owes = refl; past = refl; presence = refl; tables = refl }; words = λ k m. refl; lock = λ o x. refl; apart = λ k es o z. z; writes = λ cs. refl; raised = λ p n. no_less_met (eqb b p) (eqb f old) n }
+of_boxes (RaiseKept b f) ok = record { work = λ v. record { pass = record { number = refl; next = refl; parts = refl; shape = refl; locks = λ p. refl; writes = λ p. refl; announced = refl; flight = refl; begun = refl; cursors = λ n. refl; tokens = refl; learnt = refl; lists = refl; floor = refl; since = refl; owners = record { had = refl; found = refl }; seen = le_refl (seen_writes v); grown = λ old was. inr was; stays_online = λ is. is }; left = refl; entries = refl; committed = λ p. refl; emptied = λ p. refl; hands = λ t. refl; used = refl; debt = refl; owes = refl; past = refl; presence = refl; tables = refl }; words = λ k m. refl; lock = λ o x. refl; apart = λ k es o z. z; writes = λ cs. refl; raised = λ p n. no_less (eqb b p) n }
+of_boxes (DropShared b f) ok = record { work = λ v. record { pass = record { number = refl; next = refl; parts = refl; shape = refl; locks = λ p. refl; writes = λ p. refl; announced = refl; flight = refl; begun = refl; cursors = λ n. refl; tokens = refl; learnt = refl; lists = refl; floor = refl; since = refl; owners = record { had = refl; found = refl }; seen = le_refl (seen_writes v); grown = λ old was. inr was; stays_online = λ is. is }; left = refl; entries = refl; committed = λ p. refl; emptied = λ p. refl; hands = λ t. refl; used = refl; debt = refl; owes = refl; past = refl; presence = refl; tables = refl }; words = λ k m. refl; lock = λ o x. refl; apart = λ k es o z. z; writes = λ cs. refl; raised = λ p n. le_refl n }
+of_boxes (GivePlace b) ok = record { work = λ v. record { pass = record { number = refl; next = refl; parts = refl; shape = refl; locks = λ p. refl; writes = λ p. refl; announced = refl; flight = refl; begun = refl; cursors = λ n. refl; tokens = refl; learnt = refl; lists = refl; floor = refl; since = refl; owners = record { had = refl; found = refl }; seen = le_refl (seen_writes v); grown = λ old was. inr was; stays_online = λ is. is }; left = refl; entries = refl; committed = λ p. refl; emptied = λ p. refl; hands = λ t. refl; used = refl; debt = refl; owes = refl; past = refl; presence = refl; tables = refl }; words = λ k m. refl; lock = λ o x. refl; apart = λ k es o z. z; writes = λ cs. refl; raised = λ p n. le_refl n }
 of_boxes a ok = absurd ok
 
 pub only_boxed : (v : View) (a : Act) → IsOfBoxes a → Acted v a → OnlyBoxed v (view_after a v)
@@ -187,6 +199,7 @@ only_boxed v a is d =
     let of = of_boxes a is in record {
       work = of.work v;
       words = of.words v.shape (mem v.shape v.log);
+      raised = λ b. of.raised b (times_raised b v.log);
       unboxed = λ p low mine.
           let k = v.shape in
           let still = still_of k d.0 (did d.1 v a ∷ d.0) d.2.0 p low (λ x in_it its. stays k d.0 d.1 v a d.2.1.3 x in_it (λ e. of.apart k d.0 p (subst (Of k d.0 p) (sym e) its))) (ap (λ (cs : List Call). container_after k.starts cs p) (of.writes (history d.0))) in
@@ -205,9 +218,9 @@ only_loaded v a is leaves loads d =
 pub box_loaded : (v w : View) (b i f : ℕ) → w ≡ view_after (ReadBox b i f) v → Acted v (ReadBox b i f) → OnlyLoaded v w
 box_loaded v w b i f is d =
     subst (OnlyLoaded v) (sym is)
-    (only_loaded v (ReadBox b i f) tt (record { lock = λ p x. refl; unput = λ z. z; references = λ k c n before after. refl; state = λ c n. refl; local = λ c n. refl; taken = λ c l n. refl; places = λ c n. refl; uses = λ c n. refl }) (λ n. refl) d)
+    (only_loaded v (ReadBox b i f) tt (record { lock = λ p x. refl; unput = λ z. z; references = λ k c n before after. refl; state = λ c n. refl; local = λ c n. refl; taken = λ c l n. refl; places = λ c n. refl; uses = λ c n. refl; raised = λ c n. refl }) (λ n. refl) d)
 
 pub places_loaded : (v w : View) (q i f : ℕ) → w ≡ view_after (ReadFreePlaces q i f) v → Acted v (ReadFreePlaces q i f) → OnlyLoaded v w
 places_loaded v w q i f is d =
     subst (OnlyLoaded v) (sym is)
-    (only_loaded v (ReadFreePlaces q i f) tt (record { lock = λ p x. refl; unput = λ z. z; references = λ k c n before after. refl; state = λ c n. refl; local = λ c n. refl; taken = λ c l n. refl; places = λ c n. refl; uses = λ c n. refl }) (λ n. refl) d)
+    (only_loaded v (ReadFreePlaces q i f) tt (record { lock = λ p x. refl; unput = λ z. z; references = λ k c n before after. refl; state = λ c n. refl; local = λ c n. refl; taken = λ c l n. refl; places = λ c n. refl; uses = λ c n. refl; raised = λ c n. refl }) (λ n. refl) d)

@@ -12,7 +12,7 @@ use Rattle.ft_trace.specs.ContainerStates.{kind_in}
 use Rattle.ft_trace.specs.Holds.{held_words}
 use Rattle.ft_trace.specs.Pictures.{ContainerWords, root_in}
 use Rattle.ft_trace.proofs.Cases.{here, miss}
-use Rattle.ft_bank.specs.SameBoxes.{named_in_words, LosesReferences, MovesReferences, SameBoxes, SameMade, SameReferences, StaysSettled}
+use Rattle.ft_bank.specs.SameBoxes.{named_in_words, times_raised, LosesReferences, MovesReferences, SameBoxes, SameMade, SameReferences, StaysSettled}
 
 -- ---- before a pass has done anything
 
@@ -80,9 +80,9 @@ done_same v w same done = done_as v w same.references same.made done
 pub same_named : (o : ℕ) (v w : View) → MovesReferences o v w → ((b : ℕ) → named_in_words b (kind_in w.shape.starts o) (held_words o w) ≡ named_in_words b (kind_in v.shape.starts o) (held_words o v)) → SameReferences v w
 same_named o v w moves same b = let m = moves b in let s = same b in omega (arith, m, s)
 
--- and no more where it may have dropped some
-pub fewer_named : (o : ℕ) (v w : View) → LosesReferences o v w → ((b : ℕ) → named_in_words b (kind_in w.shape.starts o) (held_words o w) ≡ named_in_words b (kind_in v.shape.starts o) (held_words o v)) → ((b : ℕ) → references_held v.shape b v.log ≡ 0) → (b : ℕ) → references_held w.shape b w.log ≡ 0
-fewer_named o v w loses same none b = let m = loses b in let s = same b in let n = none b in omega (arith, m, s, n)
+-- and no more where it may have dropped some, and raised the count of no box
+pub fewer_named : (o : ℕ) (v w : View) → LosesReferences o v w → ((b : ℕ) → times_raised b w.log ≡ times_raised b v.log) → ((b : ℕ) → named_in_words b (kind_in w.shape.starts o) (held_words o w) ≡ named_in_words b (kind_in v.shape.starts o) (held_words o v)) → ((b : ℕ) → references_held v.shape b v.log ≡ 0) → (b : ℕ) → references_held w.shape b w.log ≡ 0
+fewer_named o v w loses raised same none b = let m = loses b in let r = raised b in let s = same b in let n = none b in omega (arith, m, r, s, n)
 
 -- no table names no box
 pub none_named : (b : ℕ) (kind : Kind) (x : ContainerWords) → root_in x ≡ 0 → named_in_words b kind x ≡ 0

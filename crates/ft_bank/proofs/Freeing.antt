@@ -179,7 +179,7 @@ lower_aside c old f = record {
   writes = λ cs. refl;
   apart = λ k es o z. z;
   inside = λ t' i e. absurd (cc);
-  boxes = record { lock = λ o b. refl; unput = λ z. z; references = λ k b n before after. refl; state = λ b n. refl; local = λ b n. refl; taken = λ b l n. refl; places = λ b n. refl; uses = λ b n. refl };
+  boxes = record { lock = λ o b. refl; unput = λ z. z; references = λ k b n before after. refl; state = λ b n. refl; local = λ b n. refl; taken = λ b l n. refl; places = λ b n. refl; uses = λ b n. refl; raised = λ b n. refl };
   box = λ b i e. absurd (cc);
 }
 
@@ -198,7 +198,7 @@ raise_aside c f = record {
   writes = λ cs. refl;
   apart = λ k es o z. z;
   inside = λ t' i e. absurd (cc);
-  boxes = record { lock = λ o b. refl; unput = λ z. z; references = λ k b n before after. refl; state = λ b n. refl; local = λ b n. refl; taken = λ b l n. refl; places = λ b n. refl; uses = λ b n. refl };
+  boxes = record { lock = λ o b. refl; unput = λ z. z; references = λ k b n before after. refl; state = λ b n. refl; local = λ b n. refl; taken = λ b l n. refl; places = λ b n. refl; uses = λ b n. refl; raised = λ b n. refl };
   box = λ b i e. absurd (cc);
 }
 
@@ -217,7 +217,7 @@ count_aside c f = record {
   writes = λ cs. refl;
   apart = λ k es o z. z;
   inside = λ t' i e. absurd (cc);
-  boxes = record { lock = λ o b. refl; unput = λ z. z; references = λ k b n before after. refl; state = λ b n. refl; local = λ b n. refl; taken = λ b l n. refl; places = λ b n. refl; uses = λ b n. refl };
+  boxes = record { lock = λ o b. refl; unput = λ z. z; references = λ k b n before after. refl; state = λ b n. refl; local = λ b n. refl; taken = λ b l n. refl; places = λ b n. refl; uses = λ b n. refl; raised = λ b n. refl };
   box = λ b i e. absurd (cc);
 }
 
@@ -236,7 +236,7 @@ free_aside w f = record {
   writes = λ cs. refl;
   apart = λ k es o z. z;
   inside = λ t' i e. absurd (cc);
-  boxes = record { lock = λ o b. refl; unput = λ z. z; references = λ k b n before after. refl; state = λ b n. refl; local = λ b n. refl; taken = λ b l n. refl; places = λ b n. refl; uses = λ b n. refl };
+  boxes = record { lock = λ o b. refl; unput = λ z. z; references = λ k b n before after. refl; state = λ b n. refl; local = λ b n. refl; taken = λ b l n. refl; places = λ b n. refl; uses = λ b n. refl; raised = λ b n. refl };
   box = λ b i e. absurd (cc);
 }
 
@@ -255,7 +255,7 @@ take_aside t f s = record {
   writes = λ cs. refl;
   apart = λ k es o z. z;
   inside = λ t' i e. absurd (cc);
-  boxes = record { lock = λ o b. refl; unput = λ z. z; references = λ k b n before after. refl; state = λ b n. refl; local = λ b n. refl; taken = λ b l n. refl; places = λ b n. refl; uses = λ b n. refl };
+  boxes = record { lock = λ o b. refl; unput = λ z. z; references = λ k b n before after. refl; state = λ b n. refl; local = λ b n. refl; taken = λ b l n. refl; places = λ b n. refl; uses = λ b n. refl; raised = λ b n. refl };
   box = λ b i e. absurd (cc);
 }
 
@@ -282,7 +282,7 @@ give_aside t = record {
   writes = λ cs. refl;
   apart = λ k es o z. z;
   inside = λ t' i e. absurd (cc);
-  boxes = record { lock = λ o b. refl; unput = λ z. z; references = λ k b n before after. refl; state = λ b n. refl; local = λ b n. refl; taken = λ b l n. refl; places = λ b n. refl; uses = λ b n. refl };
+  boxes = record { lock = λ o b. refl; unput = λ z. z; references = λ k b n before after. refl; state = λ b n. refl; local = λ b n. refl; taken = λ b l n. refl; places = λ b n. refl; uses = λ b n. refl; raised = λ b n. refl };
   box = λ b i e. absurd (cc);
 }
 

@@ -23,7 +23,7 @@ use Rattle.ft_trace.proofs.Owning.{owners_then}
 use Rattle.ft_trace.proofs.Seeing.{seen_up}
 use Rattle.ft_trace.proofs.Untouched.{untouched_in}
 use Rattle.ft_trace.proofs.BoxKnown.{sure_after, sure_keeps}
-use Rattle.ft_bank.specs.SameBoxes.{named_in_words, MovesReferences, SameBoxes, SameMade, StaysSettled}
+use Rattle.ft_bank.specs.SameBoxes.{named_in_words, times_raised, GainsRaised, LosesReferences, MovesReferences, SameBoxes, SameMade, StaysSettled}
 use Rattle.ft_bank.proofs.BoxedSteps.{made_same, made_then, boxes_then}
 use Rattle.ft_bank.proofs.DoneBoxes.{none_taken, settled_same, settled_then, stays_settled_same}
 use Rattle.ft_bank.specs.Whole.{SamePass, SameWork, OnlyBoxed, OnlyLoaded, OnlyPut, OnlyWritten, EndsWrite, Wrote, hand_after, debt_after, write_entry}
@@ -64,11 +64,11 @@ IsLoad act = ⊥
 
 -- what a pass knows of a box it knows after a load of another word
 load_boxes : (a : Act) (v : View) → IsLoad a → SameBoxes v (view_after a v)
-load_boxes (Version o f) v ok = record { references = λ b. refl; made = record { state = λ b. refl; local = λ b. refl; taken = λ b. refl; places = λ b. refl; uses = λ b. refl }; knows = λ b i is which su. (sure_after v.shape b i (Version o f) v.log (sure_keeps v.shape b i v.log su) su, refl) }
-load_boxes (ReadBlock o i f) v ok = record { references = λ b. refl; made = record { state = λ b. refl; local = λ b. refl; taken = λ b. refl; places = λ b. refl; uses = λ b. refl }; knows = λ b i is which su. (sure_after v.shape b i (ReadBlock o i f) v.log (sure_keeps v.shape b i v.log su) su, refl) }
-load_boxes (ReadTable t i f) v ok = record { references = λ b. refl; made = record { state = λ b. refl; local = λ b. refl; taken = λ b. refl; places = λ b. refl; uses = λ b. refl }; knows = λ b i is which su. (sure_after v.shape b i (ReadTable t i f) v.log (sure_keeps v.shape b i v.log su) su, refl) }
-load_boxes (ReadCounter f) v ok = record { references = λ b. refl; made = record { state = λ b. refl; local = λ b. refl; taken = λ b. refl; places = λ b. refl; uses = λ b. refl }; knows = λ b i is which su. (sure_after v.shape b i (ReadCounter f) v.log (sure_keeps v.shape b i v.log su) su, refl) }
-load_boxes (ReadRoot o f) v ok = record { references = λ b. refl; made = record { state = λ b. refl; local = λ b. refl; taken = λ b. refl; places = λ b. refl; uses = λ b. refl }; knows = λ b i is which su. (sure_after v.shape b i (ReadRoot o f) v.log (sure_keeps v.shape b i v.log su) su, refl) }
+load_boxes (Version o f) v ok = record { references = λ b. refl; made = record { state = λ b. refl; local = λ b. refl; taken = λ b. refl; places = λ b. refl; uses = λ b. refl; raised = λ b. refl }; knows = λ b i is which su. (sure_after v.shape b i (Version o f) v.log (sure_keeps v.shape b i v.log su) su, refl) }
+load_boxes (ReadBlock o i f) v ok = record { references = λ b. refl; made = record { state = λ b. refl; local = λ b. refl; taken = λ b. refl; places = λ b. refl; uses = λ b. refl; raised = λ b. refl }; knows = λ b i is which su. (sure_after v.shape b i (ReadBlock o i f) v.log (sure_keeps v.shape b i v.log su) su, refl) }
+load_boxes (ReadTable t i f) v ok = record { references = λ b. refl; made = record { state = λ b. refl; local = λ b. refl; taken = λ b. refl; places = λ b. refl; uses = λ b. refl; raised = λ b. refl }; knows = λ b i is which su. (sure_after v.shape b i (ReadTable t i f) v.log (sure_keeps v.shape b i v.log su) su, refl) }
+load_boxes (ReadCounter f) v ok = record { references = λ b. refl; made = record { state = λ b. refl; local = λ b. refl; taken = λ b. refl; places = λ b. refl; uses = λ b. refl; raised = λ b. refl }; knows = λ b i is which su. (sure_after v.shape b i (ReadCounter f) v.log (sure_keeps v.shape b i v.log su) su, refl) }
+load_boxes (ReadRoot o f) v ok = record { references = λ b. refl; made = record { state = λ b. refl; local = λ b. refl; taken = λ b. refl; places = λ b. refl; uses = λ b. refl; raised = λ b. refl }; knows = λ b i is which su. (sure_after v.shape b i (ReadRoot o f) v.log (sure_keeps v.shape b i v.log su) su, refl) }
 load_boxes a v ok = absurd ok
 
 load_only : (a : Act) (v : View) → IsLoad a → OnlyLoaded v (view_after a v)
@@ -144,6 +144,7 @@ module _ (u v w : View) where
     work = work_then a.work b.work;
     words = ap (λ (k : Shape). mem k w.log) (sym a.work.pass.shape) ∙ (b.words ∙ (ap (λ (k : Shape). mem k v.log) a.work.pass.shape ∙ a.words));
     unboxed = λ p low mine. b.unboxed p (subst (λ (k : Shape). p < container_count k) (sym a.work.pass.shape) low) (a.work.pass.locks p ∙ mine) ∙ a.unboxed p low mine;
+    raised = λ c. le_trans (a.raised c) (b.raised c);
   }
 
   pub put_then : (o : ℕ) → OnlyPut o u v → OnlyPut o v w → OnlyPut o u w
@@ -157,17 +158,24 @@ module _ (u v w : View) where
         (two.0 ∙ one.0, two.1 ∙ one.1);
   }
 
+-- with the references that it raised, the pass holds no more than that where it holds no more than before
+pub gains_fewer : (v w : View) → OnlyBoxed v w → ((b : ℕ) → references_held w.shape b w.log ≤ references_held v.shape b v.log) → GainsRaised v w
+gains_fewer v w a fewer b = let less = fewer b in let more = a.raised b in omega (arith, less, more)
+
+pub gains_then : (u v w : View) → GainsRaised u v → GainsRaised v w → GainsRaised u w
+gains_then u v w a b c = let one = a c in let two = b c in omega (arith, one, two)
+
 module _ (o : ℕ) where
   -- a put is such a step, and so is one with boxes after which the pass's own boxes are settled
   pub put_written : (v w : View) → OnlyPut o v w → OnlyWritten o v w
-  put_written v w a = record { work = a.work; made = stays_settled_same v w a.made; loses = λ b. subst (λ (n : ℕ). n ≤ references_held v.shape b v.log + named_in_words b (kind_in v.shape.starts o) (held_words o v)) (sym (a.moves b)) (le_refl _); others = a.others }
+  put_written v w a = record { work = a.work; made = stays_settled_same v w a.made; loses = λ b. let m = a.moves b in let r = a.made.raised b in omega (arith, m, r); others = a.others }
 
-  pub boxed_written : (v w : View) → OnlyBoxed v w → StaysSettled v w → ((b : ℕ) → references_held w.shape b w.log ≤ references_held v.shape b v.log) → OnlyWritten o v w
-  boxed_written v w a made fewer = record {
+  pub raised_written : (v w : View) → OnlyBoxed v w → StaysSettled v w → GainsRaised v w → OnlyWritten o v w
+  raised_written v w a made gains = record {
     work = a.work;
     made = made;
     loses = λ b.
-        let less = fewer b in
+        let less = gains b in
         let shape = a.work.pass.shape in
         let same : named_in_words b (kind_in w.shape.starts o) (held_words o w) ≡ named_in_words b (kind_in v.shape.starts o) (held_words o v) =
         λ d. named_in_words b (kind_in (shape d).starts o) ((ap (λ (k : Shape). picture k o (mem k w.log)) shape ∙ ap (λ (ws : List ℕ). picture v.shape o ws) a.words) d) in
@@ -175,11 +183,14 @@ module _ (o : ℕ) where
     others = λ p low ne mine quiet. (ap (λ (k : Shape). picture k p (mem k w.log)) a.work.pass.shape ∙ ap (λ (ws : List ℕ). picture v.shape p ws) a.words, a.unboxed p low mine);
   }
 
+  pub boxed_written : (v w : View) → OnlyBoxed v w → StaysSettled v w → ((b : ℕ) → references_held w.shape b w.log ≤ references_held v.shape b v.log) → OnlyWritten o v w
+  boxed_written v w a made fewer = raised_written v w a made (gains_fewer v w a fewer)
+
   pub written_then : (u v w : View) → OnlyWritten o u v → OnlyWritten o v w → OnlyWritten o u w
   written_then u v w a b = record {
     work = work_then u v w a.work b.work;
     made = settled_then u v w a.made b.made;
-    loses = λ c. le_trans (b.loses c) (a.loses c);
+    loses = λ c. let one = a.loses c in let two = b.loses c in omega (arith, one, two);
     others = λ p low ne mine quiet.
         let one = a.others p low ne mine quiet in
         let two = b.others p (subst (λ (k : Shape). p < container_count k) (sym a.work.pass.shape) low) ne (a.work.pass.locks p ∙ mine) (a.work.pass.writes p ∙ quiet) in
@@ -200,18 +211,18 @@ pub loaded_put : (v w : View) (o : ℕ) → OnlyLoaded v w → OnlyPut o v w
 loaded_put v w o a = record { work = a.work; made = a.boxes.made; moves = λ b. (λ d. a.boxes.references b d + named_in_words b (kind_in (a.work.pass.shape d).starts o) (loaded_held v w o a d)); others = λ p low ne mine quiet. (loaded_held v w p a, a.unboxed p low mine) }
 
 pub loaded_boxed : (v w : View) → OnlyLoaded v w → OnlyBoxed v w
-loaded_boxed v w a = record { work = a.work; words = a.words; unboxed = a.unboxed }
+loaded_boxed v w a = record { work = a.work; words = a.words; raised = λ b. let same = a.boxes.made.raised b in omega (arith, same); unboxed = a.unboxed }
 
 -- loads and puts take no step with boxes
 pub calm_made : (a : Act) (v : View) → IsCalm a → SameMade v (view_after a v)
-calm_made (Version o f) v ok = record { state = λ b. refl; local = λ b. refl; taken = λ b. refl; places = λ b. refl; uses = λ b. refl }
-calm_made (ReadBlock o i f) v ok = record { state = λ b. refl; local = λ b. refl; taken = λ b. refl; places = λ b. refl; uses = λ b. refl }
-calm_made (ReadTable t i f) v ok = record { state = λ b. refl; local = λ b. refl; taken = λ b. refl; places = λ b. refl; uses = λ b. refl }
-calm_made (ReadCounter f) v ok = record { state = λ b. refl; local = λ b. refl; taken = λ b. refl; places = λ b. refl; uses = λ b. refl }
-calm_made (ReadRoot o f) v ok = record { state = λ b. refl; local = λ b. refl; taken = λ b. refl; places = λ b. refl; uses = λ b. refl }
-calm_made (PutBlock o i x) v ok = record { state = λ b. refl; local = λ b. refl; taken = λ b. refl; places = λ b. refl; uses = λ b. refl }
-calm_made (PutTable o t i x) v ok = record { state = λ b. refl; local = λ b. refl; taken = λ b. refl; places = λ b. refl; uses = λ b. refl }
-calm_made (PutFresh t i x) v ok = record { state = λ b. refl; local = λ b. refl; taken = λ b. refl; places = λ b. refl; uses = λ b. refl }
+calm_made (Version o f) v ok = record { state = λ b. refl; local = λ b. refl; taken = λ b. refl; places = λ b. refl; uses = λ b. refl; raised = λ b. refl }
+calm_made (ReadBlock o i f) v ok = record { state = λ b. refl; local = λ b. refl; taken = λ b. refl; places = λ b. refl; uses = λ b. refl; raised = λ b. refl }
+calm_made (ReadTable t i f) v ok = record { state = λ b. refl; local = λ b. refl; taken = λ b. refl; places = λ b. refl; uses = λ b. refl; raised = λ b. refl }
+calm_made (ReadCounter f) v ok = record { state = λ b. refl; local = λ b. refl; taken = λ b. refl; places = λ b. refl; uses = λ b. refl; raised = λ b. refl }
+calm_made (ReadRoot o f) v ok = record { state = λ b. refl; local = λ b. refl; taken = λ b. refl; places = λ b. refl; uses = λ b. refl; raised = λ b. refl }
+calm_made (PutBlock o i x) v ok = record { state = λ b. refl; local = λ b. refl; taken = λ b. refl; places = λ b. refl; uses = λ b. refl; raised = λ b. refl }
+calm_made (PutTable o t i x) v ok = record { state = λ b. refl; local = λ b. refl; taken = λ b. refl; places = λ b. refl; uses = λ b. refl; raised = λ b. refl }
+calm_made (PutFresh t i x) v ok = record { state = λ b. refl; local = λ b. refl; taken = λ b. refl; places = λ b. refl; uses = λ b. refl; raised = λ b. refl }
 calm_made a v ok = absurd ok
 
 -- a put, which leaves what the pass knows of containers that it doesn't write
@@ -281,6 +292,7 @@ module _ (called : Call) (said : Reply) (number g : ℕ) (snap : Snap) (u c z w 
         owes = w1.owes;
         tables = w1.tables;
         made = commit_settles puts.made;
+        raised = puts.made.raised;
         moves = puts.moves;
         root = root;
         others = λ p low ne mine quiet.
@@ -358,7 +370,9 @@ module _ (called : Call) (said : Reply) (number f : ℕ) (v s u w : View) where
         owes = ends.owes;
         tables = ends.tables ∙ w1.tables;
         made = settled_then v u w (record { settled = λ s. puts.made.settled (record { unmade = s.unmade; counted = s.counted; whole = s.whole; given = s.given }); places = puts.made.places }) ends.made;
-        loses = λ b. subst (λ (n : ℕ). n ≤ references_held v.shape b v.log + named_in_words b (kind_in v.shape.starts o') (held_words o' v)) (sym (ends.moves b)) (puts.loses b);
+        loses = λ b. let m = ends.moves b in let r = ends.raised b in
+            let l : references_held u.shape b u.log + named_in_words b (kind_in u.shape.starts o') (held_words o' u) + times_raised b v.log ≤ references_held v.shape b v.log + named_in_words b (kind_in v.shape.starts o') (held_words o' v) + times_raised b u.log = puts.loses b in
+            omega (arith, m, r, l);
         others = λ p low ne mine quiet'.
             let low' = subst (λ (k : Shape). p < container_count k) (sym p1.shape) low in
             let e = ends.others p low' ne (p1.locks p ∙ mine) ((p1.writes p ∙ others_start p ne) ∙ quiet') in

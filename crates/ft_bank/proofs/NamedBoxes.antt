@@ -1,5 +1,5 @@
 -- The boxes that a container names whose lock a pass has are boxes of the bank, whose values the pass knows.
-use Rattle.std.proofs.Common.{◌≡◌, ◌≢◌, ℕ, suc, ◌/◌, ◌<◌, true, true≢false, refl, sym, ap, ◌∙◌, arith}
+use Rattle.std.proofs.Common.{◌≡◌, ◌≢◌, ℕ, suc, ◌/◌, ◌<◌, true, true≢false, refl, sym, ap, ◌∙◌, inr, arith}
 use Rattle.std.specs.Prelude.{slice_index}
 use Rattle.std.proofs.Math.Bridge.{le_prop}
 use Rattle.std.proofs.Math.Logic.{∥∥₁_elim}
@@ -8,7 +8,7 @@ use Rattle.ft_trace.specs.declared.Shape.{Shape}
 use Rattle.ft_trace.specs.declared.View.{View}
 use Rattle.ft_trace.specs.Addresses.{class_of, container_count, maker_of, place_in, place_word_of, IsBoxName}
 use Rattle.ft_trace.specs.Acts.{has_lock, mem}
-use Rattle.ft_trace.specs.Boxes.{value_at, names_box_at, named_in_root, named_in_container, knows_box_word}
+use Rattle.ft_trace.specs.Boxes.{value_at, names_box_at, named_in_root, named_in_container, knows_box_word, KeepsBox}
 use Rattle.ft_trace.specs.BoxTraces.{references}
 use Rattle.ft_trace.specs.ContainerStates.{kind_in}
 use Rattle.ft_trace.specs.Holds.{held_words}
@@ -22,6 +22,9 @@ use Rattle.ft_trace.proofs.PlainPuts.{named_is}
 use Rattle.ft_trace.proofs.Sums.{sum_at}
 use Rattle.ft_trace.proofs.Unboxed.{named_row}
 use Rattle.ft_bank.proofs.ValuesPut.{is_true}
+
+positive : (n : ℕ) → n ≢ 0 → 0 < n
+positive n ne = omega (arith, ne)
 
 module _ (v : View) (o t p : ℕ) (possible : ∥ IsReachable v ∥₁) (low : o < container_count v.shape) (mine : has_lock o v.log ≡ true) (names : root_in (held_words o v) ≡ suc t) (less : p < rows (kind_in v.shape.starts o) (class_of t)) (four : slice_index (held_words o v).table (value_at (kind_in v.shape.starts o) (class_of t) p) ≡ 4) where
   abbrev k : Shape
@@ -41,6 +44,10 @@ module _ (v : View) (o t p : ℕ) (possible : ∥ IsReachable v ∥₁) (low : o
       let e = named_is k o named_box (mem k v.log) in
       let r : named_in_root named_box kd (root_in (held_words o v)) table ≡ named_in_root named_box kd (suc t) table = ap (λ (x : ℕ). named_in_root named_box kd x table) names in
       omega (arith, one, s, e, r, z)
+
+  -- so the lock keeps it
+  pub named_keeps : KeepsBox k named_box v.log
+  named_keeps = inr (o, low, mine, let some_ = named_some in positive (named_in_container k named_box o (mem k v.log)) some_)
 
   sure_now : (x : IsReachable v) → (knows_box_word k named_box 1 v.log ≡ true) × (knows_box_word k named_box 2 v.log ≡ true)
   sure_now x = named_sure k x.0 x.2.0 x.1 v x.2.1 named_box o low mine named_some

@@ -114,7 +114,7 @@ write_number_aside f = record {
   writes = λ cs. refl;
   apart = λ k es o z. z;
   inside = λ t' i e. absurd (cc);
-  boxes = record { lock = λ o b. refl; unput = λ z. z; references = λ k b n before after. refl; state = λ b n. refl; local = λ b n. refl; taken = λ b l n. refl; places = λ b n. refl; uses = λ b n. refl };
+  boxes = record { lock = λ o b. refl; unput = λ z. z; references = λ k b n before after. refl; state = λ b n. refl; local = λ b n. refl; taken = λ b l n. refl; places = λ b n. refl; uses = λ b n. refl; raised = λ b n. refl };
   box = λ b i e. absurd (cc);
 }
 
@@ -133,7 +133,7 @@ announce_aside p x = record {
   writes = λ cs. refl;
   apart = λ k es o z. z;
   inside = λ t' i e. absurd (cc);
-  boxes = record { lock = λ o b. refl; unput = λ z. z; references = λ k b n before after. refl; state = λ b n. refl; local = λ b n. refl; taken = λ b l n. refl; places = λ b n. refl; uses = λ b n. refl };
+  boxes = record { lock = λ o b. refl; unput = λ z. z; references = λ k b n before after. refl; state = λ b n. refl; local = λ b n. refl; taken = λ b l n. refl; places = λ b n. refl; uses = λ b n. refl; raised = λ b n. refl };
   box = λ b i e. absurd (cc);
 }
 
@@ -155,7 +155,7 @@ announced_aside p f = record {
   writes = λ cs. refl;
   apart = λ k es o z. z;
   inside = λ t' i e. absurd (cc);
-  boxes = record { lock = λ o b. refl; unput = λ z. z; references = λ k b n before after. refl; state = λ b n. refl; local = λ b n. refl; taken = λ b l n. refl; places = λ b n. refl; uses = λ b n. refl };
+  boxes = record { lock = λ o b. refl; unput = λ z. z; references = λ k b n before after. refl; state = λ b n. refl; local = λ b n. refl; taken = λ b l n. refl; places = λ b n. refl; uses = λ b n. refl; raised = λ b n. refl };
   box = λ b i e. absurd (cc);
 }
 
@@ -174,7 +174,7 @@ retire_aside t f = record {
   writes = λ cs. refl;
   apart = λ k es o z. z;
   inside = λ t' i e. absurd (cc);
-  boxes = record { lock = λ o b. refl; unput = λ z. z; references = λ k b n before after. refl; state = λ b n. refl; local = λ b n. refl; taken = λ b l n. refl; places = λ b n. refl; uses = λ b n. refl };
+  boxes = record { lock = λ o b. refl; unput = λ z. z; references = λ k b n before after. refl; state = λ b n. refl; local = λ b n. refl; taken = λ b l n. refl; places = λ b n. refl; uses = λ b n. refl; raised = λ b n. refl };
   box = λ b i e. absurd (cc);
 }
 
@@ -196,7 +196,7 @@ put_goal_aside t x = record {
   writes = λ cs. refl;
   apart = λ k es o z. z;
   inside = λ t' i e. absurd (cc);
-  boxes = record { lock = λ o b. refl; unput = λ z. z; references = λ k b n before after. refl; state = λ b n. refl; local = λ b n. refl; taken = λ b l n. refl; places = λ b n. refl; uses = λ b n. refl };
+  boxes = record { lock = λ o b. refl; unput = λ z. z; references = λ k b n before after. refl; state = λ b n. refl; local = λ b n. refl; taken = λ b l n. refl; places = λ b n. refl; uses = λ b n. refl; raised = λ b n. refl };
   box = λ b i e. absurd (cc);
 }
 
@@ -215,7 +215,7 @@ header_aside t f = record {
   writes = λ cs. refl;
   apart = λ k es o z. z;
   inside = λ t' i e. absurd (cc);
-  boxes = record { lock = λ o b. refl; unput = λ z. z; references = λ k b n before after. refl; state = λ b n. refl; local = λ b n. refl; taken = λ b l n. refl; places = λ b n. refl; uses = λ b n. refl };
+  boxes = record { lock = λ o b. refl; unput = λ z. z; references = λ k b n before after. refl; state = λ b n. refl; local = λ b n. refl; taken = λ b l n. refl; places = λ b n. refl; uses = λ b n. refl; raised = λ b n. refl };
   box = λ b i e. absurd (cc);
 }
 

@@ -19,6 +19,10 @@ shape_of b = plan b.shape
 abbrev pub view : Pass → View
 view p = p.seat.me.0
 
+-- the word of bits of its own heap in which the pass looks first for a free place
+abbrev pub heap_word_of : Pass → ℕ
+heap_word_of p = p.heap_word
+
 -- the pass is one of the bank's
 abbrev pub IsPassOf : Bank → Pass → Type 0
 IsPassOf b p = (p.seat.table_id ≡ b.table.shared.table_id) × (p.seat.me.0.shape ≡ plan b.shape)

@@ -17,7 +17,7 @@ use Rattle.ft_trace.specs.Pictures.{root_in, Represents}
 use Rattle.ft_trace.specs.Holds.{held_words, held_unboxed, known_state}
 use Rattle.ft_bank.specs.Locks.{KnowsSame}
 use Rattle.ft_bank.specs.Logs.{HasGrown, StaysOnline}
-use Rattle.ft_bank.specs.SameBoxes.{LosesReferences, MovesReferences, SameBoxes, SameMade, StaysSettled}
+use Rattle.ft_bank.specs.SameBoxes.{LosesReferences, MovesReferences, SameBoxes, SameMade, StaysSettled, times_raised}
 use Rattle.ft_bank.specs.TableActs.{table_acts}
 use Rattle.ft_bank.specs.WriteSteps.{MayHave}
 
@@ -63,10 +63,11 @@ pub record SameWork (v w : View) : Type 0 where
   pub tables : table_acts w.log ≡ table_acts v.log
 
 -- The pass has loaded words of the bank and taken steps with boxes, and done nothing else: it knows the same words, and
--- they read the same through boxes in each container whose lock it has. (profile)
+-- they read the same through boxes in each container whose lock it has. It may have raised counts. (profile)
 pub record OnlyBoxed (v w : View) : Type 0 where
   pub work : SameWork v w
   pub words : mem v.shape w.log ≡ mem v.shape v.log
+  pub raised : (b : ℕ) → times_raised b v.log ≤ times_raised b w.log
   pub unboxed : (p : ℕ) → p < container_count v.shape → has_lock p v.log ≡ true → held_unboxed p w ≡ held_unboxed p v
 
 -- The pass has loaded words of the bank, and done nothing else. (profile)
@@ -88,7 +89,7 @@ pub record OnlyPut (o : ℕ) (v w : View) : Type 0 where
 
 -- The pass has loaded words, put words of the container o and taken steps with boxes, and done nothing else: of each
 -- other container whose lock it has and that it doesn't write it knows the same words, which read the same. It may have
--- dropped references that the words of o have no longer. (profile)
+-- dropped references that the words of o have no longer, and have raised counts. (profile)
 pub record OnlyWritten (o : ℕ) (v w : View) : Type 0 where
   pub work : SameWork v w
   pub made : StaysSettled v w
@@ -142,6 +143,7 @@ pub record EndsWrite (called : Call) (said : Reply) (number : ℕ) (v w : View) 
   pub owes : owes w.log ≡ 0
   pub tables : table_acts w.log ≡ table_acts v.log
   pub made : StaysSettled v w
+  pub raised : (b : ℕ) → times_raised b w.log ≡ times_raised b v.log
   pub moves : MovesReferences (changes called) v w
   pub root : root_in (held_words (changes called) w) ≡ root_in (held_words (changes called) v)
   pub others : (p : ℕ) → p < container_count v.shape → p ≢ changes called → has_lock p v.log ≡ true

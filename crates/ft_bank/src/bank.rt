@@ -85,6 +85,7 @@ impl Bank {
             own: Taking::NONE,
             mark: None,
             retired,
+            heap_word: 0,
             seat,
         };
         Ok((bank, pass))
@@ -120,6 +121,7 @@ impl Bank {
             own: Taking::NONE,
             mark: None,
             retired,
+            heap_word: 0,
             seat,
         }
     }
@@ -146,6 +148,7 @@ impl Bank {
             own: _,
             mark: _,
             retired,
+            heap_word: _,
             seat,
         } = other;
         self.settle_as::<Brand>(&mut pass.seat, seat);

@@ -36,6 +36,7 @@ impl Bank {
             own,
             mark,
             retired,
+            heap_word,
             mut seat,
         } = pass;
         let tokens = self.table.shared.split_seat::<Gives>(&mut seat);
@@ -47,6 +48,7 @@ impl Bank {
             own,
             mark,
             retired,
+            heap_word,
             seat,
         };
         (resting, Tokens { seat: tokens })
@@ -92,6 +94,7 @@ impl Bank {
             own,
             mark,
             retired,
+            heap_word,
             mut seat,
         } = resting;
         let Tokens { seat: tokens } = tokens;
@@ -105,6 +108,7 @@ impl Bank {
             own,
             mark,
             retired,
+            heap_word,
             seat,
         }
     }
@@ -129,6 +133,7 @@ impl Bank {
             own: _,
             mark: _,
             retired,
+            heap_word: _,
             seat,
         } = other;
         self.settle_as::<Brand>(&mut pass.seat, seat);

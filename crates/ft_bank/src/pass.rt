@@ -20,6 +20,7 @@ pub struct Pass {
     pub(crate) own: Taking,
     pub(crate) mark: Option<u32>,
     pub(crate) retired: Box<[u64; RETIRED]>,
+    pub(crate) heap_word: u32,
     pub(crate) seat: Seat<(), View>,
     ghost bare: { seat.me.1 ≡ [] },
     ghost numbered: { seat.me.0.number ≡ suc number },
@@ -32,7 +33,7 @@ pub struct Pass {
 }
 
 impl Pass {
-    ghost use Rattle.ft_bank.specs.Passes.{view, KeepsAll};
+    ghost use Rattle.ft_bank.specs.Passes.{heap_word_of, view, KeepsAll};
     ghost use Rattle.ft_bank.specs.PassSections.{stack_of};
 
     /// The number of the pass, from 0 on; the lock of a container names its holder by it.
@@ -93,5 +94,22 @@ impl Pass {
         ensures stack { stack_of self.new ≡ record (stack_of self.old) { mark = mark } }
     {
         self.mark = mark;
+    }
+
+    /// The word of bits of its own heap in which the pass looks first for a free place, for `ft_boxes`: 0 at first.
+    /// There it found one last, which says nothing of what it finds there next.
+    pub fn heap_word(&self) -> u32
+        ensures { result ≡ heap_word_of self.now }
+    {
+        self.heap_word
+    }
+
+    /// Puts another word in its place, for `ft_boxes`.
+    pub fn put_heap_word(&mut self, word: u32)
+        ensures view { KeepsAll self.old self.new }
+        ensures stack { stack_of self.new ≡ stack_of self.old }
+        ensures word { heap_word_of self.new ≡ word }
+    {
+        self.heap_word = word;
     }
 }

@@ -20,6 +20,7 @@ pub struct Resting {
     pub(crate) own: Taking,
     pub(crate) mark: Option<u32>,
     pub(crate) retired: Box<[u64; RETIRED]>,
+    pub(crate) heap_word: u32,
     pub(crate) seat: Seat<(), View>,
     ghost bare: { seat.me.1 ≡ [] },
     ghost numbered: { seat.me.0.number ≡ suc number },

@@ -31,7 +31,7 @@ use Rattle.ft_trace.proofs.Cases.{hit}
 use Rattle.ft_trace.proofs.Known.{declared_at, kind_known}
 use Rattle.ft_trace.proofs.Naming.{one_locked}
 use Rattle.ft_trace.proofs.NoTable.{no_table_stands}
-use Rattle.ft_bank.specs.SameBoxes.{SameMade, SameReferences}
+use Rattle.ft_bank.specs.SameBoxes.{times_raised, SameMade, SameReferences}
 use Rattle.ft_bank.specs.WriteSteps.{Committed, IsShut, MayCommit}
 use Rattle.ft_bank.specs.Whole.{OnlyLoaded, Wrote}
 use Rattle.ft_bank.proofs.KnownAfterWrites.{plain_write, put_same, put_written, work_knows, write_ends}
@@ -173,6 +173,11 @@ pub writes_merged : (l : ℕ) (v s c w : View) (f n g : ℕ) (snap : Snap) → s
 writes_merged l v s c w f n g snap started committed stopped merged b own =
     merged b (ap (λ (z : View). made_state b z.log) (sym (stopped ∙ (ap (view_after (StopWrite l g)) committed ∙ ap (λ (z : View). view_after (StopWrite l g) (view_after (Commit (reversal l) reply.Done n snap) z)) started))) ∙ own)
 
+-- and none raises a count
+pub writes_raised : (l : ℕ) (v s c w : View) (f n g : ℕ) (snap : Snap) → s ≡ view_after (StartWrite l f) v → c ≡ view_after (Commit (reversal l) reply.Done n snap) s → w ≡ view_after (StopWrite l g) c → (b : ℕ) → times_raised b w.log ≡ times_raised b v.log
+writes_raised l v s c w f n g snap started committed stopped b =
+    ap (λ (z : View). times_raised b z.log) (stopped ∙ (ap (view_after (StopWrite l g)) committed ∙ ap (λ z. view_after (StopWrite l g) (view_after (Commit (reversal l) reply.Done n snap) z)) started))
+
 -- a load of the root leaves all that
 pub may_loaded : (k : Shape) (l : ℕ) (v w : View) → v.shape ≡ k → OnlyLoaded v w → MayReverse k l v → MayReverse k l w
 may_loaded k l v w shape only may =
@@ -194,7 +199,7 @@ pub reversed_done : (l number : ℕ) (v w : View) → Reversed l number v w → 
 reversed_done l number v w r done =
     let loaded = done_same v r.loaded r.only.boxes done in
     done_stays r.loaded w r.wrote.made
-    (fewer_named l r.loaded w r.wrote.loses (λ b. none_named b (kind_in w.shape.starts l) (held_words l w) r.still_bare ∙ sym (none_named b (kind_in r.loaded.shape.starts l) (held_words l r.loaded) r.bare)) loaded.none)
+    (fewer_named l r.loaded w r.wrote.loses r.raised (λ b. none_named b (kind_in w.shape.starts l) (held_words l w) r.still_bare ∙ sym (none_named b (kind_in r.loaded.shape.starts l) (held_words l r.loaded) r.bare)) loaded.none)
     loaded
 
 -- ---- what a pass has to do with boxes
@@ -209,11 +214,11 @@ step_done a v w is made references done =
 
 pub lock_done : (l f : ℕ) (snap : Snap) (v w : View) → w ≡ view_after (Lock l f snap) v → IsDone v → IsDone w
 lock_done l f snap v w is =
-    step_done (Lock l f snap) v w is (record { state = λ b. refl; local = λ b. refl; taken = λ b. refl; places = λ b. refl; uses = λ b. refl }) (λ b. refl)
+    step_done (Lock l f snap) v w is (record { state = λ b. refl; local = λ b. refl; taken = λ b. refl; places = λ b. refl; uses = λ b. refl; raised = λ b. refl }) (λ b. refl)
 
 pub unlock_done : (l : ℕ) (v w : View) → w ≡ view_after (Unlock l) v → IsDone v → IsDone w
 unlock_done l v w is =
-    step_done (Unlock l) v w is (record { state = λ b. refl; local = λ b. refl; taken = λ b. refl; places = λ b. refl; uses = λ b. refl }) (λ b. refl)
+    step_done (Unlock l) v w is (record { state = λ b. refl; local = λ b. refl; taken = λ b. refl; places = λ b. refl; uses = λ b. refl; raised = λ b. refl }) (λ b. refl)
 
 -- and so does a list that was reversed, or loaded
 pub tried_done : (l : ℕ) (result : Option ℕ) (v w : View) → IfSome result (λ number. Reversed l number v w) → (result ≡ None → OnlyLoaded v w) → IsDone v → IsDone w

@@ -12,6 +12,7 @@ use Rattle.ft_trace.specs.Boxes.{place_use, use_taken, HasMergedBoxes}
 use Rattle.ft_trace.specs.ContainerStates.{kind_in}
 use Rattle.ft_trace.specs.Pictures.{root_in, Represents}
 use Rattle.ft_trace.specs.Holds.{held_words, held_unboxed, known_state}
+use Rattle.ft_bank.specs.SameBoxes.{times_raised}
 use Rattle.ft_bank.specs.Whole.{OnlyLoaded, Wrote}
 
 -- The pass may reverse the list l: it has its lock, and the list's words stand for what the pass knows of it; it writes
@@ -27,7 +28,7 @@ pub record MayReverse (k : Shape) (l : ℕ) (v : View) : Type 0 where
   pub left : 0 < v.left
 
 -- The pass has loaded the root of l, which was 0, and then reversed the list in one whole write of this number. Where it
--- had merged all its boxes it has so still.
+-- had merged all its boxes it has so still, and it has raised the count of none.
 pub record Reversed (l number : ℕ) (v w : View) : Type 0 where
   pub loaded : View
   pub only : OnlyLoaded v loaded
@@ -35,3 +36,4 @@ pub record Reversed (l number : ℕ) (v w : View) : Type 0 where
   pub wrote : Wrote (call.List l list.Reverse) reply.Done number loaded w
   pub still_bare : root_in (held_words l w) ≡ 0
   pub merged : HasMergedBoxes v.log → HasMergedBoxes w.log
+  pub raised : (b : ℕ) → times_raised b w.log ≡ times_raised b loaded.log

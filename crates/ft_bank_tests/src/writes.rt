@@ -1,5 +1,5 @@
 //! The smallest whole write, for tests that need writes and no table: a list that has nothing is reversed.
-ghost use Rattle.std.specs.Prelude.{◌≡◌, ◌<◌, IfSome, None};
+ghost use Rattle.std.specs.Prelude.{◌≡◌, ℕ, ◌<◌, IfSome, None};
 ghost use Rattle.ft_model.specs.declared.call.Call.TheVariants as call;
 ghost use Rattle.ft_model.specs.declared.call.ListCall.TheVariants as list;
 ghost use Rattle.ft_model.specs.declared.reply.Reply.TheVariants as reply;
@@ -8,6 +8,7 @@ ghost use Rattle.ft_trace.specs.Pictures.{root_in};
 ghost use Rattle.ft_trace.specs.Holds.{held_words};
 ghost use Rattle.ft_bank.specs.Passes.{shape_of, view, IsPassOf};
 ghost use Rattle.ft_bank.specs.PassSections.{stack_of};
+ghost use Rattle.ft_bank.specs.SameBoxes.{times_raised};
 ghost use Rattle.ft_bank.specs.Whole.{OnlyLoaded, Wrote};
 ghost use Rattle.ft_bank_tests.specs.SmallestWrites.{MayReverse, Reversed};
 
@@ -24,6 +25,7 @@ fn reverse(bank: &Bank, pass: &mut Pass, l: u32) -> u64
     ensures wrote { Wrote (call.List l list.Reverse) reply.Done result (view pass.old) (view pass.new) }
     ensures still_bare { root_in (held_words l (view pass.new)) ≡ 0 }
     ensures merged { HasMergedBoxes (view pass.old).log → HasMergedBoxes (view pass.new).log }
+    ensures raised { (b : ℕ) → times_raised b (view pass.new).log ≡ times_raised b (view pass.old).log }
 {
     let called = Call::List {
         container: l,

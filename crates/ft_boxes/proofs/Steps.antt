@@ -1,5 +1,5 @@
 -- What a step on one box leaves of the other boxes, of the references that the pass holds, and of the values that it knows.
-use Rattle.std.proofs.Common.{◌≡◌, ◌≢◌, ◌⊎◌, ℕ, ◌+◌, ◌-◌, ◌%◌, ◌^◌, ◌<◌, eqb, cond, List, ◌∷◌, ◌++◌, refl, sym, ap, ◌∙◌, subst, inl, inr, arith, append_assoc}
+use Rattle.std.proofs.Common.{◌≡◌, ◌≢◌, ◌⊎◌, ℕ, ◌+◌, ◌-◌, ◌%◌, ◌^◌, ◌<◌, ◌≤◌, le_refl, eqb, Bool, true, false, cond, List, ◌∷◌, ◌++◌, refl, sym, ap, ◌∙◌, subst, inl, inr, arith, append_assoc}
 use mathlib.Core.Logic.{dite}
 use native.Mathlib.Decide.{ℕ_discrete}
 use Rattle.ft_layout.specs.declared.slot.Ref.{Ref}
@@ -21,7 +21,9 @@ use Rattle.ft_bank.specs.BoxSteps.{box_id}
 use Rattle.ft_bank.specs.Logs.{HasGrown}
 use Rattle.ft_bank.proofs.DoneBoxes.{none_taken}
 use Rattle.ft_bank.proofs.Logs.{newer_part}
-use Rattle.ft_bank.specs.SameBoxes.{KnowsBoxes, SameMade, SameReferences, TakesNoPlace}
+use Rattle.ft_bank.proofs.KnownAfterWrites.{gains_fewer}
+use Rattle.ft_bank.specs.SameBoxes.{times_raised, GainsRaised, KnowsBoxes, SameMade, SameReferences, TakesNoPlace}
+use Rattle.ft_bank.specs.Whole.{OnlyBoxed}
 use Rattle.ft_boxes.specs.References.{HoldsBox, HoldsOneMore, HoldsOneLess, KeepsValues, LeavesOthers}
 
 -- ---- other boxes
@@ -185,6 +187,21 @@ places_then u v w first then b taken = first b (then b taken)
 
 pub places_same : (v w : View) → SameMade v w → TakesNoPlace v w
 places_same v w same b taken = sym (same.uses b) ∙ taken
+
+-- ---- what the pass holds more is what it raised
+
+raise_gains : (x : Bool) (held times : ℕ) → cond x (held + 1) held + times ≤ held + cond x (times + 1) times
+raise_gains true held times = omega arith
+raise_gains false held times = le_refl (held + times)
+
+pub local_gains : (b x : ℕ) (v w : View) → w ≡ view_after (RaiseLocal b x) v → GainsRaised v w
+local_gains b x v w did = subst (GainsRaised v) (sym did) (λ c. raise_gains (eqb b c) (references_held v.shape c v.log) (times_raised c v.log))
+
+pub kept_gains : (b f : ℕ) (v w : View) → w ≡ view_after (RaiseKept b f) v → GainsRaised v w
+kept_gains b f v w did = subst (GainsRaised v) (sym did) (λ c. raise_gains (eqb b c) (references_held v.shape c v.log) (times_raised c v.log))
+
+pub same_gains : (v w : View) → OnlyBoxed v w → SameReferences v w → GainsRaised v w
+same_gains v w only same = gains_fewer v w only (λ b. let r = same b in omega (arith, r))
 
 -- ---- names
 

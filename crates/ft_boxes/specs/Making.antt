@@ -1,10 +1,11 @@
 -- What it comes to to make a box.
-use Rattle.std.specs.Prelude.{◌≡◌, ℕ, zero, suc, ◌+◌, ◌-◌, ◌/◌, ◌==◌, cond, List, [], ◌∷◌, ◌++◌}
+use Rattle.std.specs.Prelude.{◌≡◌, ◌⊎◌, ℕ, zero, suc, ◌+◌, ◌-◌, ◌/◌, ◌==◌, cond, List, [], ◌∷◌, ◌++◌}
 use Rattle.ft_layout.specs.declared.slot.Ref.{Ref}
 use Rattle.ft_model.specs.declared.data.Value.{Value}
 use Rattle.ft_trace.specs.declared.Act.{Act}
 use Rattle.ft_trace.specs.declared.Act.TheVariants.{ReadFreePlaces}
 use Rattle.ft_trace.specs.declared.View.{View}
+use Rattle.ft_trace.specs.Acts.{view_after}
 use Rattle.ft_trace.specs.Boxes.{local_count, place_use, references_held, use_stored, use_taken}
 use Rattle.ft_bank.specs.BoxSteps.{box_id, IsBoxIn, IsOwn}
 use Rattle.ft_bank.specs.SameBoxes.{SameBoxes}
@@ -35,9 +36,13 @@ full_loads q (suc word) = ReadFreePlaces q word 0 ∷ full_loads q word
 abbrev pub FoundFull : ℕ → View → View → Type 0
 FoundFull words v w = w.log ≡ full_loads (v.number - 1) words ++ v.log
 
--- each word of its heap
+-- it had loaded one of these words before, and found no free place there either
+abbrev pub FoundOneFull : View → View → Type 0
+FoundOneFull v w = (word : ℕ) × (w ≡ view_after (ReadFreePlaces (v.number - 1) word 0) v)
+
+-- each word of its heap; before that it may have looked at one of them
 abbrev pub FoundHeapFull : View → View → Type 0
-FoundHeapFull v w = FoundFull (v.shape.heap / 64) v w
+FoundHeapFull v w = (x : View) × ((x ≡ v) ⊎ FoundOneFull v x) × FoundFull (v.shape.heap / 64) x w
 
 -- what making a box of the value answers, from the view v to w
 abbrev pub Makes : Value → View → View → Made → Type 0

@@ -12,7 +12,7 @@ ghost use Rattle.ft_bank.specs.PassSections.{stack_of};
 ghost use Rattle.ft_bank.specs.SameBoxes.{HoldsFew, SameBoxes};
 ghost use Rattle.ft_bank.specs.Whole.{OnlyBoxed};
 ghost use Rattle.ft_boxes.specs.Internal.Places.{FoundWordFull, HasFilled, HasTakenPlace};
-ghost use Rattle.ft_boxes.specs.Making.{FoundHeapFull, Makes};
+ghost use Rattle.ft_boxes.specs.Making.{FoundFull, FoundHeapFull, Makes};
 ghost use Rattle.ft_boxes.specs.References.{KeepsValues};
 
 use crate::held::{Held, Made};
@@ -29,9 +29,10 @@ const PAYLOAD: u64 = 2;
 
 const LOCAL: u64 = 3;
 
-/// Makes a box of a value that isn't `None`, at the first free place of the pass's own heap, while the pass writes no
-/// container: it holds the box's one reference. It loads the words of bits of the heap up to the first that has a free
-/// place, takes the place by one locked step, and puts four words.
+/// Makes a box of a value that isn't `None`, at a free place of the pass's own heap, while the pass writes no container:
+/// it holds the box's one reference. It looks first at the word of bits in which it took the last place, and where that
+/// has no free place at all words from the first on, up to one that has; it takes the first place that is free there by
+/// one locked step, and puts four words.
 ///
 /// `HeapFull` comes only where each word of bits of the heap was 0 when this call loaded it, and no place was taken.
 pub fn make(bank: &Bank, pass: &mut Pass, value: Value) -> Made
@@ -57,7 +58,8 @@ pub fn make(bank: &Bank, pass: &mut Pass, value: Value) -> Made
     }
 }
 
-/// Takes the first free place of the pass's own heap, if there is one.
+/// Takes a free place of the pass's own heap, if there is one: in the word of bits in which it took the last one, or else
+/// the first.
 fn take_free(bank: &Bank, pass: &mut Pass) -> Option<Ref>
     requires pass { IsPassOf bank.now pass.old }
     requires settled { IsSettled (view pass.old).log }
@@ -70,9 +72,35 @@ fn take_free(bank: &Bank, pass: &mut Pass) -> Option<Ref>
         × SameBoxes (view pass.old) (view pass.new)) }
     ensures values { KeepsValues (view pass.old) (view pass.new) }
 {
+    let word = pass.heap_word();
+    if word >= bank.heap() / BITS {
+        return take_first(bank, pass);
+    }
+    match take_in(bank, pass, word) {
+        Some(b) => Some(b),
+        None => take_first(bank, pass),
+    }
+}
+
+/// Takes the first free place of the pass's own heap, if there is one, and notes its word of bits.
+fn take_first(bank: &Bank, pass: &mut Pass) -> Option<Ref>
+    requires pass { IsPassOf bank.now pass.old }
+    requires settled { IsSettled (view pass.old).log }
+    requires idle { (o : ℕ) → is_writing o (view pass.old).log ≡ false }
+    ensures pass { IsPassOf bank.now pass.new }
+    ensures sections { stack_of pass.new ≡ stack_of pass.old }
+    ensures only { OnlyBoxed (view pass.old) (view pass.new) }
+    ensures taken { IfSome result (λ b. HasTakenPlace b (view pass.old) (view pass.new)) }
+    ensures full { IfNone result (FoundFull ((shape_of bank.now).heap / 64) (view pass.old) (view pass.new)
+        × SameBoxes (view pass.old) (view pass.new)) }
+    ensures values { KeepsValues (view pass.old) (view pass.new) }
+{
     for word in 0..bank.heap() / BITS {
         match take_in(bank, pass, word) {
-            Some(b) => return Some(b),
+            Some(b) => {
+                pass.put_heap_word(word);
+                return Some(b);
+            }
             None => {}
         }
     }

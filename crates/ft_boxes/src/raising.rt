@@ -5,7 +5,7 @@ ghost use Rattle.ft_trace.specs.SeenBoxes.{SawBox};
 ghost use Rattle.ft_bank.specs.BoxSteps.{box_id, IsBoxIn, IsOwn, IsShared};
 ghost use Rattle.ft_bank.specs.Passes.{shape_of, view, IsPassOf};
 ghost use Rattle.ft_bank.specs.PassSections.{stack_of};
-ghost use Rattle.ft_bank.specs.SameBoxes.{HoldsFew, SameReferences, TakesNoPlace};
+ghost use Rattle.ft_bank.specs.SameBoxes.{GainsRaised, HoldsFew, SameReferences, TakesNoPlace};
 ghost use Rattle.ft_bank.specs.Whole.{OnlyBoxed};
 ghost use Rattle.ft_boxes.specs.Raising.{Raises};
 ghost use Rattle.ft_boxes.specs.References.{HoldsOneMore, KeepsValues, LeavesOthers, box_of};
@@ -66,6 +66,7 @@ pub fn raise_kept(bank: &Bank, pass: &mut Pass, b: Ref) -> Held
     ensures settled { IsSettled (view pass.new).log }
     ensures only { OnlyBoxed (view pass.old) (view pass.new) }
     ensures more { HoldsOneMore b (view pass.old) (view pass.new) }
+    ensures gains { GainsRaised (view pass.old) (view pass.new) }
     ensures others { LeavesOthers b (view pass.old) (view pass.new) }
     ensures places { TakesNoPlace (view pass.old) (view pass.new) }
     ensures values { KeepsValues (view pass.old) (view pass.new) }
@@ -89,6 +90,7 @@ fn raise_if_own(bank: &Bank, pass: &mut Pass, b: Ref) -> bool
     ensures only { OnlyBoxed (view pass.old) (view pass.new) }
     ensures more { IsTrue result → HoldsOneMore b (view pass.old) (view pass.new) }
     ensures shared { result ≡ false → IsShared b (view pass.new) × SameReferences (view pass.old) (view pass.new) }
+    ensures gains { GainsRaised (view pass.old) (view pass.new) }
     ensures others { LeavesOthers b (view pass.old) (view pass.new) }
     ensures places { TakesNoPlace (view pass.old) (view pass.new) }
     ensures values { KeepsValues (view pass.old) (view pass.new) }
@@ -114,6 +116,7 @@ fn raise_own(bank: &Bank, pass: &mut Pass, b: Ref) -> bool
     ensures only { OnlyBoxed (view pass.old) (view pass.new) }
     ensures more { IsTrue result → HoldsOneMore b (view pass.old) (view pass.new) }
     ensures merged { result ≡ false → IsShared b (view pass.new) × SameReferences (view pass.old) (view pass.new) }
+    ensures gains { GainsRaised (view pass.old) (view pass.new) }
     ensures others { LeavesOthers b (view pass.old) (view pass.new) }
     ensures places { TakesNoPlace (view pass.old) (view pass.new) }
     ensures values { KeepsValues (view pass.old) (view pass.new) }

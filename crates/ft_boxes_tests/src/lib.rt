@@ -12,6 +12,8 @@ mod merges;
 #[cfg(test)]
 mod moves;
 mod seeing;
+#[cfg(test)]
+mod sharing;
 mod storing;
 #[cfg(test)]
 mod threads;

@@ -33,7 +33,7 @@ fn insert_first(bank: &Bank, pass: &mut Pass, integer: i64) -> bool
 }
 
 /// Takes an item out of the list. Says whether it was this integer.
-fn pop_is(bank: &Bank, pass: &mut Pass, index: i64, integer: i64) -> bool
+pub(crate) fn pop_is(bank: &Bank, pass: &mut Pass, index: i64, integer: i64) -> bool
     requires list { HasOneList bank.now }
     requires may { IsCaller bank.now pass.old }
     ensures may { IsTrue result → IsCaller bank.now pass.new }
@@ -79,7 +79,7 @@ fn append_small(bank: &Bank, pass: &mut Pass, count: u32) -> bool
 }
 
 /// The place of the box that an item of the list names, in the heap of the first pass.
-fn place_at(bank: &Bank, pass: &mut Pass, index: u32) -> Option<u32>
+pub(crate) fn place_at(bank: &Bank, pass: &mut Pass, index: u32) -> Option<u32>
     requires list { HasOneList bank.now }
     requires counter { IsCounter bank.now pass.old }
     ensures counter { IsCounter bank.now pass.new }

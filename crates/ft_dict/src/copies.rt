@@ -16,8 +16,8 @@ use ft_replacing::copy_into;
 use ft_section::Object;
 use ft_table_calls::Added;
 
-/// `copyto d e`, by a pass that has the locks of both dicts: e has the pairs of d then, in their order. A dict that is
-/// named twice has its own pairs, with new serials.
+/// `copyto d e`, by a pass that has the locks of both dicts: e has the pairs of d then, in their order, and shares the
+/// boxes of their values. A dict that is named twice has its own pairs, with new serials, and its values in place.
 ///
 /// # Errors
 ///

@@ -19,8 +19,9 @@ use ft_section::Object;
 use ft_table_calls::Added;
 
 /// `d.update(e)` (Python manual, Mapping Types), by a pass that has both locks: a key of e that d has gets the value of
-/// e in its place, and the others are added in their order; a dict that is named twice stays as it is. All of it is
-/// done, or nothing.
+/// e in its place, and the others are added in their order; a dict that is named twice stays as it is. A value that
+/// stands in a box stands in that box in both then; where d has an equal value at the key already, that one stays. All
+/// of it is done, or nothing.
 ///
 /// # Errors
 ///

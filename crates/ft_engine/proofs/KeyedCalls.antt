@@ -57,7 +57,7 @@ module _ (k : Shape) (o : ℕ) (came : Made) (u z : View) (left : 0 < u.left) wh
   puts key called said x = subst (Comes called u z) x.1 (loaded_comes k _ _ called said u x.2.0 z x.0 left x.2.1 x.2.2)
 
   joins : (t : ℕ) (called : Call) → ComesTo (JoinsBy k o t called) reply.Done came u z → Comes called u z came
-  joins t called x = subst (Comes called u z) x.1 (loaded_comes k _ _ called reply.Done u x.2.0 z x.0 left x.2.1 x.2.2)
+  joins t called x = subst (Comes called u z) x.1 (loaded_comes k _ _ called reply.Done u x.2.0.0 z x.0 left x.2.0.1 x.2.0.2)
 
   parts : (t : ℕ) (called : Call) → ComesTo (PartsBy k o t called) reply.Done came u z → Comes called u z came
   parts t called x = subst (Comes called u z) x.1 (loaded_comes k _ _ called reply.Done u x.2.0 z x.0 left x.2.1 x.2.2)
@@ -97,7 +97,7 @@ module _ (k : Shape) (o : ℕ) (came : Made) (u z : View) (left : 0 < u.left) wh
       y.2)
 
   copies_to : (e : ℕ) → ComesTo (CopiesTo k o e) reply.Done came u z → Comes (call.Dict o (dict.CopyTo e)) u z came
-  copies_to e x = subst (Comes (call.Dict o (dict.CopyTo e)) u z) x.1 (replaced_comes k _ (call.Dict o (dict.CopyTo e)) u z x.0 left x.2)
+  copies_to e x = subst (Comes (call.Dict o (dict.CopyTo e)) u z) x.1 (replaced_comes k _ (call.Dict o (dict.CopyTo e)) u z x.0 left x.2.0)
 
   dict_comes : (dc : DictCall) → cursor_of_dict dc ≡ None → is_landed_dict dc ≡ true → DictCallMakes k o dc came u z → Comes (call.Dict o dc) u z came
   dict_comes (dict.Get key) none landed x = read_comes (call.Dict o (dict.Get key)) u z came left x

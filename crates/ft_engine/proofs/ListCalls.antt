@@ -88,7 +88,7 @@ module _ (k : Shape) (l : ℕ) (came : Made) (u z : View) (left : 0 < u.left) wh
   list_comes : (lc : ListCall) → cursor_of_list lc ≡ None → ListCallMakes k l lc came u z → Comes (call.List l lc) u z came
   list_comes (list.Append value) none x = stored 1 value (length (known_items l u)) (call.List l (list.Append value)) x
   list_comes (list.Insert i value) none x = stored 1 value (clamped_in (length (known_items l u)) i) (call.List l (list.Insert i value)) x
-  list_comes (list.Extend m) none x = adds (call.List l (list.Extend m)) (length (known_items m u)) x
+  list_comes (list.Extend m) none x = adds (call.List l (list.Extend m)) (length (known_items m u)) (x.0, x.1, x.2.0, x.3)
   list_comes (list.Get i) none x = read_comes (call.List l (list.Get i)) u z came left x
   list_comes (list.Set i value) none x = ⊎_elim (λ y. made_comes (call.List l (list.Set i value)) u z came left y.1) (λ y. set_comes i value came refl y.1) x
   list_comes (list.Del i) none x = made_comes (call.List l (list.Del i)) u z came left x

@@ -24,10 +24,10 @@ use Rattle.ft_engine.proofs.SectionCalls.{loaded_in, same_nothing, stays_then}
 -- ---- longer times
 
 quiesced_before : (u v w : View) → StaysPass u v → HasQuiesced v w → HasQuiesced u w
-quiesced_before u v w stays x = record { start = x.start; earlier = stays_then u v x.start stays x.earlier; merged = x.merged; idle = x.idle; number = x.number; after = x.after; freed = x.freed; collected = x.collected; later = x.later }
+quiesced_before u v w stays x = record { start = x.start; earlier = stays_then u v x.start stays x.earlier; merged = x.merged; boxed = x.boxed; merges = x.merges; idle = x.idle; number = x.number; after = x.after; freed = x.freed; collected = x.collected; later = x.later }
 
 quiesced_after : (u v w : View) → HasQuiesced u v → StaysPass v w → HasQuiesced u w
-quiesced_after u v w x stays = record { start = x.start; earlier = x.earlier; merged = x.merged; idle = x.idle; number = x.number; after = x.after; freed = x.freed; collected = x.collected; later = stays_then x.after v w x.later stays }
+quiesced_after u v w x stays = record { start = x.start; earlier = x.earlier; merged = x.merged; boxed = x.boxed; merges = x.merges; idle = x.idle; number = x.number; after = x.after; freed = x.freed; collected = x.collected; later = stays_then x.after v w x.later stays }
 
 pub for_before : (called : Call) (u v w : View) → StaysPass u v → HasCollectedFor called v w → HasCollectedFor called u w
 for_before call.Quiesce u v w on x = quiesced_before u v w on x

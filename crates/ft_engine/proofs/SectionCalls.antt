@@ -26,6 +26,7 @@ use Rattle.ft_bank.specs.declared.sections.Taking.{Taking}
 use Rattle.ft_bank.specs.Logs.{HasGrown, StaysOnline}
 use Rattle.ft_bank.specs.Passes.{view, IsPassOf}
 use Rattle.ft_bank.specs.PassSections.{Stack, stack_of}
+use Rattle.ft_bank.specs.Whole.{OnlyBoxed}
 use Rattle.ft_bank.proofs.LastLoads.{last_older}
 use Rattle.ft_bank.proofs.Logs.{grown_by, newer_part}
 use Rattle.ft_boxes.specs.Merging.{FoundCounts, LeavesNoIdleBox, MergesIdleBoxes}
@@ -340,8 +341,8 @@ idle_merged v x merges merged b = ⊎_elim (λ (e : (made_state b x.log ≡ made
     other : state_merged ≢ state_default
     other e = omega (arith, e)
 
-pub quiesce_answer : (b : Bank) (p q r : Pass) (x : View) (stamp : Stamp) → IsReady b p → 0 < (view p).left → IsPassOf b q → stack_of q ≡ stack_of p → IsCalm (view p) (view q) → StaysPass (view p) x → LeavesNoIdleBox (view p) x → (n : ℕ) × (freed : ℕ) × Collected (view_after (Announce x.number n) (view_after (WriteNumber n) x)) (view q) freed → 0 < announces (view q).log → IsPassOf b r → stack_of r ≡ stack_of q → view r ≡ answered_view call.Quiesce reply.Done stamp.number (view q) → stamp.wrote ≡ false → seen_writes (view q) ≤ stamp.number → HasAnswer b call.Quiesce reply.Done stamp p r
-quiesce_answer b p q r x stamp ready left pass_q stack_q calm first idle did on pass_r stack_r is read seen =
+pub quiesce_answer : (b : Bank) (p q r : Pass) (x : View) (stamp : Stamp) → IsReady b p → 0 < (view p).left → IsPassOf b q → stack_of q ≡ stack_of p → IsCalm (view p) (view q) → StaysPass (view p) x → OnlyBoxed (view p) x → MergesIdleBoxes (view p) x → LeavesNoIdleBox (view p) x → (n : ℕ) × (freed : ℕ) × Collected (view_after (Announce x.number n) (view_after (WriteNumber n) x)) (view q) freed → 0 < announces (view q).log → IsPassOf b r → stack_of r ≡ stack_of q → view r ≡ answered_view call.Quiesce reply.Done stamp.number (view q) → stamp.wrote ≡ false → seen_writes (view q) ≤ stamp.number → HasAnswer b call.Quiesce reply.Done stamp p r
+quiesce_answer b p q r x stamp ready left pass_q stack_q calm first boxed merges idle did on pass_r stack_r is read seen =
     let v = view p in
     let u = view q in
     let made = answered_entry call.Quiesce reply.Done stamp u read (subst (λ (n : ℕ). 0 < n) (sym calm.left) left) seen in
@@ -353,7 +354,7 @@ quiesce_answer b p q r x stamp ready left pass_q stack_q calm first idle did on 
       top = λ none. absurd (true≢false (sym none));
       stack = stack ∙ ap (λ (t : Taking). with_own (stack_of p) t) ready.own;
       walked = λ number. ap (option_map container_of) (ap (λ (z : View). cursor_in number z.log) is ∙ calm.cursors number);
-      collected = record { start = v; earlier = (same_nothing v).pass; merged = x; idle = idle; number = did.0; after = u; freed = did.1; collected = did.2; later = subst (StaysPass u) (sym is) made.pass };
+      collected = record { start = v; earlier = (same_nothing v).pass; merged = x; boxed = boxed; merges = merges; idle = idle; number = did.0; after = u; freed = did.1; collected = did.2; later = subst (StaysPass u) (sym is) made.pass };
       marks = ap section_marks stack;
       mark = ap (λ (s : Stack). s.mark) stack;
       ends = tt;

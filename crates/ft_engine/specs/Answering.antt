@@ -26,8 +26,8 @@ use Rattle.ft_bank.specs.LastLoads.{IsLastLoad}
 use Rattle.ft_bank.specs.Logs.{HasGrown, StaysOnline}
 use Rattle.ft_bank.specs.Passes.{shape_of, view, DidNothing}
 use Rattle.ft_bank.specs.PassSections.{stack_of}
-use Rattle.ft_bank.specs.Whole.{OnlyLoaded}
-use Rattle.ft_boxes.specs.Merging.{LeavesNoIdleBox}
+use Rattle.ft_bank.specs.Whole.{OnlyBoxed, OnlyLoaded}
+use Rattle.ft_boxes.specs.Merging.{LeavesNoIdleBox, MergesIdleBoxes}
 use Rattle.ft_qsbr.specs.Collecting.{Collected}
 use Rattle.ft_section.specs.declared.answers.Got.{Got}
 use Rattle.ft_section.specs.declared.answers.Got.TheVariants as got
@@ -95,15 +95,18 @@ pub record HasLoaded (called : Call) (n : ℕ) (v w : View) : Type 0 where
 abbrev pub after_announcing : ℕ → View → View
 after_announcing number v = view_after (Announce v.number number) (view_after (WriteNumber number) v)
 
--- After the first of these moments the pass merged its boxes whose counts added up to 0: each that it has in the default
--- state then had references when it loaded the counts. (PEP 703, Biased Reference Counting) It announced the write number,
--- since it holds on to no table that it found before, and collected, before the second moment: it found what each pass
--- announces, and gave back just those of the tables that it kept retired whose goals all of them are past, so that no pass
--- online can still read them. Its log has what it did for that between what it had at the two moments. (PEP 703, QSBR)
+-- After the first of these moments the pass merged its boxes whose counts added up to 0, and did nothing else: each that
+-- it has in the default state then had references when it loaded the counts. (PEP 703, Biased Reference Counting) It
+-- announced the write number, since it holds on to no table that it found before, and collected, before the second
+-- moment: it found what each pass announces, and gave back just those of the tables that it kept retired whose goals all
+-- of them are past, so that no pass online can still read them. Its log has what it did for that between what it had at
+-- the two moments. (PEP 703, QSBR)
 pub record HasQuiesced (v w : View) : Type 0 where
   pub start : View
   pub earlier : StaysPass v start
   pub merged : View
+  pub boxed : OnlyBoxed start merged
+  pub merges : MergesIdleBoxes start merged
   pub idle : LeavesNoIdleBox start merged
   pub number : ℕ
   pub after : View

@@ -13,4 +13,6 @@ mod lists;
 #[cfg(test)]
 mod sections;
 #[cfg(test)]
+mod sharing;
+#[cfg(test)]
 mod tables;

@@ -169,7 +169,7 @@ const WRITER: &str = "set d 1 5\nget d 1\nset d 2 6\ndel d 1\n";
 
 const READER: &str = "get d 1\nhas d 2\nlen d\nsetdefault d 3 1\n";
 
-const REPEATED: [Repeated; 6] = [
+const REPEATED: [Repeated; 7] = [
     Repeated {
         name: "four threads on one dict",
         containers: "dict d\n",
@@ -234,6 +234,18 @@ const REPEATED: [Repeated; 6] = [
         ],
         times: 200,
         entries: 1800,
+    },
+    Repeated {
+        name: "values that lists and dicts share",
+        containers: "dict d\ndict e\nlist l\nlist m\n",
+        threads: &[
+            ("A", "append l 1000\nextend m l\nclear l\nclear m\n"),
+            ("B", "extend l m\npop m\npop l\nquiesce\n"),
+            ("C", "extend m l\nset d 1 2000\nupdate e d\nquiesce\n"),
+            ("D", "append m \"b\"\nupdate d e\nclear e\nclear m\n"),
+        ],
+        times: 100,
+        entries: 1600,
     },
 ];
 

@@ -18,7 +18,7 @@ use Rattle.ft_trace.specs.Addresses.{class_of, slots}
 use Rattle.ft_trace.specs.Boxes.{named_in_container, place_use, use_taken, StoresTaken}
 use Rattle.ft_trace.specs.ContainerStates.{changes, kind_in}
 use Rattle.ft_trace.specs.Holds.{held_words}
-use Rattle.ft_trace.specs.Pictures.{item_field}
+use Rattle.ft_trace.specs.Pictures.{ContainerWords, item_field}
 use Rattle.ft_trace.specs.Traces.{IsReachable}
 use Rattle.ft_bank.specs.declared.table.Table.{Table}
 use Rattle.ft_bank.specs.SameBoxes.{SameBoxes, SameReferences}
@@ -36,7 +36,7 @@ use Rattle.ft_list.specs.declared.addition.Addition.{Addition}
 use Rattle.ft_list.specs.declared.addition.Addition.TheVariants.{All, One}
 use Rattle.ft_list.specs.HeldValues.{GivesReference, IsAddedStoring}
 use Rattle.ft_list.specs.ListItemWrites.{WritesList}
-use Rattle.ft_list.specs.Internal.Additions.{CanStore, count_in, first_in, stored_in, NamesAdded, StoresAddition}
+use Rattle.ft_list.specs.Internal.Additions.{CanStore, count_in, first_in, stored_in, IsAddition, KnowsItems, NamesAdded, StoresAddition}
 use Rattle.ft_list.specs.Internal.Carrying.{KeepsItemValues}
 use Rattle.ft_search.specs.HeldValues.{StoresBox}
 use Rattle.ft_list.proofs.CarriedWords.{words_kept, words_low}
@@ -65,9 +65,22 @@ keeps_boxes v w possible same kind payload own =
 -- ---- the box that is added
 
 -- steps that leave the values of the items
-pub names_kept : (o : ℕ) (values : List Value) (addition : Addition) (v w : View) → KeepsItemValues o v w → NamesAdded o values addition v → NamesAdded o values addition w
-names_kept o values (One place value stored) v w keeps names = λ four. words_kept o values place value (stored_kind stored) (stored_payload stored) v w keeps (names four)
-names_kept o values (All other more) v w keeps names = names
+pub names_kept : (o : ℕ) (values : List Value) (addition : Addition) (u v w : View) → KeepsItemValues o v w → NamesAdded o values addition u v → NamesAdded o values addition u w
+names_kept o values (One place value stored) u v w keeps names = λ four. words_kept o values place value (stored_kind stored) (stored_payload stored) v w keeps (names four)
+names_kept o values (All other more) u v w keeps names = λ p low. let n = names p low in (keeps (length values + p) 1 (omega arith) (omega arith) ∙ n.0, keeps (length values + p) 2 (omega arith) (omega arith) ∙ n.1)
+
+-- what the items had that are added
+abbrev pub SameGiven : Addition → View → View → Type 0
+SameGiven (One place value stored) u v = Unit {0}
+SameGiven (All other more) u v = (p : ℕ) → p < more → (item_field (held_words other v).table p 1 ≡ item_field (held_words other u).table p 1) × (item_field (held_words other v).table p 2 ≡ item_field (held_words other u).table p 2)
+
+pub given_same : (k : Shape) (count : ℕ) (addition : Addition) (u v : View) → IsAddition k count addition u → ((p : ℕ) → KnowsItems k p u → held_words p v ≡ held_words p u) → SameGiven addition u v
+given_same k count (One place value stored) u v is same = tt
+given_same k count (All other more) u v is same = λ p low. (ap (λ (x : ContainerWords). item_field x.table p 1) (same other is.1), ap (λ (x : ContainerWords). item_field x.table p 2) (same other is.1))
+
+pub names_from : (o : ℕ) (values : List Value) (addition : Addition) (u v w : View) → SameGiven addition u v → NamesAdded o values addition v w → NamesAdded o values addition u w
+names_from o values (One place value stored) u v w same names = names
+names_from o values (All other more) u v w same names = λ p low. let n = names p low in let s = same p low in (n.0 ∙ s.0, n.1 ∙ s.1)
 
 pub words_kept_all : (o : ℕ) (v w : View) → (held_words o w).table ≡ (held_words o v).table → KeepsItemValues o v w
 words_kept_all o v w same place word some_ few = ap (λ (l : List ℕ). item_field l place word) same
@@ -77,9 +90,9 @@ pub stores_untaken : (addition : Addition) (called : Call) (v : View) → count_
 stores_untaken (One place value stored) called v none stores = absurd (omega (arith, none))
 stores_untaken (All other more) called v none stores = stores
 
-pub names_none : (o : ℕ) (values : List Value) (addition : Addition) (w : View) → count_in addition ≡ 0 → NamesAdded o values addition w
-names_none o values (One place value stored) w none = absurd (omega (arith, none))
-names_none o values (All other more) w none = tt
+pub names_none : (o : ℕ) (values : List Value) (addition : Addition) (v w : View) → count_in addition ≡ 0 → NamesAdded o values addition v w
+names_none o values (One place value stored) v w none = absurd (omega (arith, none))
+names_none o values (All other more) v w none = λ p low. absurd (omega (arith, none, low))
 
 -- and then no reference is the list's
 pub gives_all : (k : Shape) (v w : View) → v.shape ≡ k → w.shape ≡ k → SameReferences v w → GivesReference k Empty v w
@@ -113,8 +126,8 @@ module _ (called : Call) (v u : View) (before : (b : ℕ) → place_use b u.log 
     is_kind = ap (λ (z : Shape). kind_in z.starts o) shape ∙ list.kind
 
     -- a box that no write of the pass has stored is stored by this one
-    pub stores_added : (addition : Addition) (values : List Value) (count : ℕ) → count ≡ length values → first_in addition count ≤ count → count + count_in addition ≤ slots (class_of (table_id table)) → StoresAddition addition called v → NamesAdded o values addition u → (world : StoredWorld) → MayHave u world → StoresTaken u.shape world.world u.log called
-    stores_added (One place value stored) values count n low room stores names world has =
+    pub stores_added : (addition : Addition) (values : List Value) (count : ℕ) → count ≡ length values → first_in addition count ≤ count → count + count_in addition ≤ slots (class_of (table_id table)) → StoresAddition addition called v → (given : View) → NamesAdded o values addition given u → (world : StoredWorld) → MayHave u world → StoresTaken u.shape world.world u.log called
+    stores_added (One place value stored) values count n low room stores given names world has =
         let kd = stored_kind stored in
         let pl = stored_payload stored in (
           (λ b taken.
@@ -130,7 +143,7 @@ module _ (called : Call) (v u : View) (before : (b : ℕ) → place_use b u.log 
               let second = box_named c kd pl (stores.named c (before c two)) in
               sym first.1 ∙ second.1),
         )
-    stores_added (All other more) values count n low room none names world has = ((λ b taken. absurd (none b (before b taken))), (λ b c one two. absurd (none b (before b one))))
+    stores_added (All other more) values count n low room none given names world has = ((λ b taken. absurd (none b (before b taken))), (λ b c one two. absurd (none b (before b one))))
 
 -- ---- what the call comes to
 

@@ -215,7 +215,7 @@ done_wrote k u w first then_ done stays same = record {
 pub done_answered : (k : Shape) (called : Call) (said : Reply) (n : ℕ) (u w : View) → u.shape ≡ k → w.shape ≡ k → IsDoneWithBoxes k u.log → Answered called said n u w → IsDoneWithBoxes k w.log
 done_answered k called said n u w first then_ done x =
     let made = stays_settled_same u x.before x.loaded.boxes.made in
-    let late = stays_settled_same x.before w (subst (SameMade x.before) (sym x.answered) (record { state = λ b. refl; local = λ b. refl; taken = λ b. refl; places = λ b. refl; uses = λ b. refl })) in
+    let late = stays_settled_same x.before w (subst (SameMade x.before) (sym x.answered) (record { state = λ b. refl; local = λ b. refl; taken = λ b. refl; places = λ b. refl; uses = λ b. refl; raised = λ b. refl })) in
     done_wrote k u w first then_ done (settled_then u x.before w made late)
     (λ b. ap (λ (z : View). references_held z.shape b z.log) x.answered ∙ x.loaded.boxes.references b)
 

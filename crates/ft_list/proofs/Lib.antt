@@ -33,6 +33,7 @@ pub mod GrowWrites
 pub mod Additions
 pub mod Emptying
 pub mod Extending
+pub mod SharedItems
 pub mod Undisturbed
 pub mod ListTries
 pub mod HeldWrites

@@ -19,7 +19,7 @@ use Rattle.ft_bank.specs.TableNames.{table_id, IsTableIn}
 use Rattle.ft_bank.proofs.LastLoads.{last_older}
 use Rattle.ft_bank.proofs.TableAddresses.{class_is}
 use Rattle.ft_search.specs.Rounds.{IsFresh}
-use Rattle.ft_search.proofs.Running.{did_trans, did_log, window_of}
+use Rattle.ft_search.proofs.Running.{did_trans, did_log, inner_roots, window_of}
 use Rattle.ft_search.proofs.Rounding.{looks_inner, among_in, bare_acts, bare_between, bare_last, bare_of, container_in, ends_older, last_read, rounds_left, falls as round_falls}
 use Rattle.ft_list.specs.declared.looks.LookedItem.{LookedItem}
 use Rattle.ft_list.specs.declared.looks.LookedItem.TheVariants.{Item, Past, Contended}
@@ -172,7 +172,7 @@ past_closes k o t index n high = (
 pub fresh_root : (k : Shape) (o t r : ℕ) (p q : Pass) (part rest : List Act) → Inner part → DidAll part p q → (view p).log ≡ ReadRoot o t ∷ rest → r ≢ t → ((u : ℕ) → r ≡ suc u → IsTableName k u) → IsNew o r (view q).log → IsFresh k r (part ++ (view p).log)
 fresh_root k o t r p q part rest inner did last ne table new u is =
     let log = did_log part p q did in
-    (table u is, sym (ap (reads u) log) ∙ new u t part rest is (λ s. ne (sym s)) (log ∙ ap (λ (z : List Act). part ++ z) last) inner)
+    (table u is, sym (ap (reads u) log) ∙ new u t part rest is (λ s. ne (sym s)) (log ∙ ap (λ (z : List Act). part ++ z) last) (inner_roots part inner))
 
 -- ---- what was found stays found
 

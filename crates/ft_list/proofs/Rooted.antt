@@ -48,6 +48,15 @@ module _ (o root : ℕ) (v w : View) (h : HasRooted o root v w) where
       let still = h.only.others p (subst (λ (z : Shape). p < container_count z) (sym shape) low) ne (ap (λ (z : View). has_lock p z.log) h.did ∙ mine) (ap (λ (z : View). is_writing p z.log) h.did ∙ (started ∙ quiet)) in
       (still.1 ∙ put, rooted_locks p, rooted_writes p ne)
 
+  -- its words as they stand
+  pub rooted_raw : (p : ℕ) → p ≢ o → p < container_count v.shape → has_lock p v.log ≡ true → is_writing p v.log ≡ false → held_words p w ≡ held_words p v
+  rooted_raw p ne low mine quiet =
+      let started : is_writing p (view_after (StartWrite o h.start) v).log ≡ is_writing p v.log = miss o p true (is_writing p v.log) (λ e. ne (sym e)) in
+      let put : held_words p h.rooted ≡ held_words p v = (h.keeps p low mine (started ∙ quiet)).0 in
+      let shape : h.rooted.shape ≡ v.shape = ap (λ (z : View). z.shape) h.did in
+      let still = h.only.others p (subst (λ (z : Shape). p < container_count z) (sym shape) low) ne (ap (λ (z : View). has_lock p z.log) h.did ∙ mine) (ap (λ (z : View). is_writing p z.log) h.did ∙ (started ∙ quiet)) in
+      still.0 ∙ put
+
 -- the start of a write leaves what is put then
 pub start_reads : (o f : ℕ) (v : View) (any : Option Table) → with_unboxed_root (held_unboxed o (view_after (StartWrite o f) v)) o any (view_after (StartWrite o f) v) ≡ with_unboxed_root (held_unboxed o v) o any v
 start_reads o f v None = refl
@@ -66,7 +75,7 @@ module _ (k : Shape) (o : ℕ) (old root : Option Table) (v s r : View) (f : ℕ
   put_moves = subst (λ (z : View). MovesReferences o z r) begun moves
 
   pub put_made : SameMade v r
-  put_made = subst (SameMade v) (sym put_is) (record { state = λ b. refl; local = λ b. refl; taken = λ b. refl; places = λ b. refl; uses = λ b. refl })
+  put_made = subst (SameMade v) (sym put_is) (record { state = λ b. refl; local = λ b. refl; taken = λ b. refl; places = λ b. refl; uses = λ b. refl; raised = λ b. refl })
 
   pub put_here : o < container_count r.shape
   put_here = subst (λ (z : Shape). o < container_count z) (sym (put_shape ∙ shape)) list.container

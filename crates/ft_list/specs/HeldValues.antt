@@ -42,6 +42,14 @@ HasWordsFrom o values place value kind payload w =
     (at : ℕ) × (place ≤ at) × ((p : ℕ) → place ≤ p → p < at → stored_item values p ≡ Plain value)
     × (item_field (held_words o w).table at 1 ≡ kind) × (item_field (held_words o w).table at 2 ≡ payload)
 
+-- The items of the list o from this place on have the values that so many first ones of the list m had, as their words
+-- stand: where such a value stands in a box, both lists name that box.
+abbrev pub SharesItems : ℕ → ℕ → ℕ → ℕ → View → View → Type 0
+SharesItems o first m count v w =
+    (p : ℕ) → p < count
+    → (item_field (held_words o w).table (first + p) 1 ≡ item_field (held_words m v).table p 1)
+    × (item_field (held_words o w).table (first + p) 2 ≡ item_field (held_words m v).table p 2)
+
 -- A pass with the locks of a call made it, as one whole write, or as an entry that isn't a write at a load of the counter;
 -- before that it may have dropped a reference for a box. Its reply is the one of the plain containers, and it is a write
 -- where the call is of a changing kind and the reply is no exception. No table changed hands, and the pass is done with

@@ -11,7 +11,8 @@ use Rattle.ft_trace.specs.declared.View.{View}
 use Rattle.ft_trace.specs.Holds.{known_state}
 use Rattle.ft_bank.specs.Whole.{OnlyLoaded}
 use Rattle.ft_table_calls.specs.declared.adding.Added.{Added}
-use Rattle.ft_table_calls.specs.Adding.{IsAdded}
+use Rattle.ft_table_calls.specs.Adding.{IsAdded, WasMade}
+use Rattle.ft_list.specs.HeldValues.{SharesItems}
 use Rattle.ft_list.specs.ListItemWrites.{known_items}
 
 -- What a call that adds n items to the list o comes to under the lock, which the plain list replies is done: after
@@ -23,7 +24,9 @@ AddsItems k o called n v w what =
     × IsAdded k (list_takes (known_state o v).table (length (known_items o v) + n))
     (nat_lt most_items (length (known_items o v) + n)) called reply.Done u w what
 
--- What `o.extend(m)` comes to under the locks of both: it adds as many items as m has. (Python manual, Mutable Sequence
--- Types)
+-- What `o.extend(m)` comes to under the locks of both: it adds as many items as m has (Python manual, Mutable Sequence
+-- Types), and a value that stands in a box stands in that box in both then. (profile)
 abbrev pub ExtendsBy : Shape → ℕ → ℕ → View → View → Added → Type 0
-ExtendsBy k o m v w what = AddsItems k o (call.List o (list.Extend m)) (length (known_items m v)) v w what
+ExtendsBy k o m v w what =
+    AddsItems k o (call.List o (list.Extend m)) (length (known_items m v)) v w what
+    × (WasMade what → SharesItems o (length (known_items o v)) m (length (known_items m v)) v w)

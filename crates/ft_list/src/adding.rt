@@ -20,7 +20,7 @@ ghost use Rattle.ft_list.specs.ListWrites.{MayWriteList, Adds};
 ghost use Rattle.ft_list.specs.ListGrowth.{AddsItems};
 ghost use Rattle.ft_list.specs.Internal.Carrying.{HoldsSpare};
 ghost use Rattle.ft_list.specs.Internal.NewListTables.{KnowsList, MayAdd, list_use_of};
-ghost use Rattle.ft_list.specs.HeldValues.{IsAddedStoring};
+ghost use Rattle.ft_list.specs.HeldValues.{IsAddedStoring, SharesItems};
 ghost use Rattle.ft_list.specs.Internal.Additions.{count_in, stored_in, with_added, HasNamed, IsAddition, StoresAddition};
 
 use crate::addition::{Addition, added_count};
@@ -262,7 +262,8 @@ pub fn insert_by(bank: &Bank, pass: &mut Pass, l: Object, index: i64, value: Val
 }
 
 /// `l.extend(m)`, by a pass that has the locks of both lists (Python manual, Mutable Sequence Types). All items are
-/// added, or none; a list that is named twice is read as it was before.
+/// added, or none; a list that is named twice is read as it was before. A value that stands in a box stands in that
+/// box in both lists then.
 ///
 /// # Errors
 ///
@@ -277,6 +278,8 @@ pub fn extend_by(bank: &Bank, pass: &mut Pass, l: Object, m: Object) -> Added
     ensures stack { stack_of pass.new ≡ stack_of pass.old }
     ensures added { AddsItems (shape_of bank.now) l (call.List l (list.Extend m)) (length (known_items m (view pass.old)))
         (view pass.old) (view pass.new) result }
+    ensures shares { WasMade result → SharesItems l (length (known_items l (view pass.old))) m
+        (length (known_items m (view pass.old))) (view pass.old) (view pass.new) }
     ensures cursors { KeepsCursors (view pass.old) (view pass.new) }
 {
     let called = Call::List {

@@ -15,12 +15,12 @@ ghost use Rattle.ft_bank.specs.Whole.{OnlyLoaded, OnlyWritten};
 ghost use Rattle.ft_list.specs.ListItemWrites.{WritesList, IsPutting, known_items, stored_item};
 ghost use Rattle.ft_list.specs.Internal.Carrying.{HoldsSpare};
 ghost use Rattle.ft_list.specs.Internal.Moving.{IsMoving};
-ghost use Rattle.ft_list.specs.HeldValues.{GivesReference};
+ghost use Rattle.ft_list.specs.HeldValues.{GivesReference, SharesItems};
 ghost use Rattle.ft_list.specs.Internal.Additions.{count_in, first_in, stored_in, with_added, GivesItems, IsAdditionTo, NamesAdded};
 
-use crate::items::put_item;
+use crate::items::{carry_item, let_go};
 use crate::locked::table_at_root;
-use crate::reads::read_stored;
+use crate::sharing::{given_words, share_given};
 use crate::writes::{put_last, shift_up};
 use ft_bank::{Bank, Pass, Table};
 use ft_layout::{Stored, stored_kind_of, stored_payload_of};
@@ -62,27 +62,9 @@ pub(crate) fn first_place(addition: Addition, count: u64) -> u64
     }
 }
 
-/// What an item of a list stores whose items are added to a list.
-fn given_item(bank: &Bank, pass: &mut Pass, m: u32, table: Option<Table>, place: u64) -> Stored
-    requires pass { IsPassOf bank.now pass.old }
-    requires gives { (o : ℕ) × GivesItems (shape_of bank.now) o m (view pass.old) }
-    requires table { (t : Table) → table ≡ Some t → IsTableIn (shape_of bank.now) t }
-    requires root { root_in (held_unboxed m (view pass.old)) ≡ root_for table }
-    requires place { place < length (known_items m (view pass.old)) }
-    ensures pass { IsPassOf bank.now pass.new }
-    ensures stack { stack_of pass.new ≡ stack_of pass.old }
-    ensures only { OnlyLoaded (view pass.old) (view pass.new) }
-    ensures stored { result ≡ stored_item (known_items m (view pass.old)) place }
-    ensures fits { FitsStored result }
-{
-    match table {
-        Some(table) => read_stored(bank, pass, m, table, place),
-        None => unreachable!(),
-    }
-}
-
-/// Puts the items of a list one by one after those of the list that the pass writes, which had that many. Each is
-/// read from the table of its list just before it is put.
+/// Puts the items of a list one by one after those of the list that the pass writes, which had that many. The words of
+/// each value are read from the table of its list just before they are put, and the count of a box that they name is
+/// raised in between: both lists name it then.
 fn put_from(
     bank: &Bank,
     pass: &mut Pass,
@@ -96,6 +78,7 @@ fn put_from(
     requires pass { IsPassOf bank.now pass.old }
     requires list { WritesList (shape_of bank.now) o table (view pass.old) }
     requires early { has_committed o (view pass.old).log ≡ false }
+    requires spare { HoldsSpare (shape_of bank.now) (view pass.old) }
     requires gives { GivesItems (shape_of bank.now) o m (view pass.old) }
     requires from { (t : Table) → from ≡ Some t → IsTableIn (shape_of bank.now) t }
     requires root { root_in (held_unboxed m (view pass.old)) ≡ root_for from }
@@ -109,15 +92,17 @@ fn put_from(
     ensures list { WritesList (shape_of bank.now) o table (view pass.new) }
     ensures only { OnlyWritten o (view pass.old) (view pass.new) }
     ensures references { SameReferences (view pass.old) (view pass.new) }
+    ensures shares { SharesItems o count m more (view pass.old) (view pass.new) }
     ensures block { (held_unboxed o (view pass.new)).block ≡ (held_unboxed o (view pass.old)).block }
     ensures moved { IsMoving (class_of (table_id table)) (known_items o (view pass.old))
         (known_items o (view pass.old) ++ known_items m (view pass.old)) count (count + more) (count + more)
         (held_unboxed o (view pass.new)).table }
 {
-    let start = bank.cell_of(table);
     for place in 0..more {
-        let stored = given_item(bank, pass, m, from, place);
-        put_item(bank, pass, o, table, start, count + place, stored);
+        let value = given_words(bank, pass, m, from, place);
+        share_given(bank, pass, m, place, value);
+        let old = carry_item(bank, pass, o, table, count + place, value);
+        let_go(bank, pass, o, table, old);
     }
 }
 
@@ -127,6 +112,7 @@ fn put_items(bank: &Bank, pass: &mut Pass, o: u32, table: Table, m: u32, count: 
     requires pass { IsPassOf bank.now pass.old }
     requires list { WritesList (shape_of bank.now) o table (view pass.old) }
     requires early { has_committed o (view pass.old).log ≡ false }
+    requires spare { HoldsSpare (shape_of bank.now) (view pass.old) }
     requires gives { GivesItems (shape_of bank.now) o m (view pass.old) }
     requires count { count ≡ length (known_items o (view pass.old)) }
     requires more { more ≡ length (known_items m (view pass.old)) }
@@ -138,6 +124,7 @@ fn put_items(bank: &Bank, pass: &mut Pass, o: u32, table: Table, m: u32, count: 
     ensures list { WritesList (shape_of bank.now) o table (view pass.new) }
     ensures only { OnlyWritten o (view pass.old) (view pass.new) }
     ensures references { SameReferences (view pass.old) (view pass.new) }
+    ensures shares { SharesItems o count m more (view pass.old) (view pass.new) }
     ensures block { (held_unboxed o (view pass.new)).block ≡ (held_unboxed o (view pass.old)).block }
     ensures moved { IsMoving (class_of (table_id table)) (known_items o (view pass.old))
         (known_items o (view pass.old) ++ known_items m (view pass.old)) count (count + more) (count + more)
@@ -171,7 +158,7 @@ pub(crate) fn put_added(
     ensures list { WritesList (shape_of bank.now) o table (view pass.new) }
     ensures only { OnlyWritten o (view pass.old) (view pass.new) }
     ensures references { GivesReference (shape_of bank.now) (stored_in addition) (view pass.old) (view pass.new) }
-    ensures named { NamesAdded o (known_items o (view pass.old)) addition (view pass.new) }
+    ensures named { NamesAdded o (known_items o (view pass.old)) addition (view pass.old) (view pass.new) }
     ensures block { (held_unboxed o (view pass.new)).block ≡ (held_unboxed o (view pass.old)).block }
     ensures moved { IsMoving (class_of (table_id table)) (known_items o (view pass.old))
         (with_added addition (view pass.old) (known_items o (view pass.old))) (first_in addition count)

@@ -13,7 +13,7 @@ ghost use Rattle.ft_trace.specs.Boxes.{place_use, use_taken};
 ghost use Rattle.ft_bank.specs.declared.table.Table.{Table};
 ghost use Rattle.ft_search.specs.Boxed.{KeepsOwn};
 ghost use Rattle.ft_trace.specs.Holds.{held_words, held_unboxed, known_state, in_hand};
-ghost use Rattle.ft_trace.specs.Pictures.{root_in};
+ghost use Rattle.ft_trace.specs.Pictures.{item_field, root_in};
 ghost use Rattle.ft_bank.specs.Passes.{shape_of, view, IsPassOf};
 ghost use Rattle.ft_bank.specs.PassSections.{stack_of};
 ghost use Rattle.ft_bank.specs.TableNames.{table_id, IsPlaceOf, IsTableIn};
@@ -134,6 +134,11 @@ fn begin_in(bank: &Bank, pass: &mut Pass, o: u32, old: Option<Table>, table: Tab
     ensures putting { (first past : ℕ) →
         IsPutting (class_of (table_id table)) (known_items o (view pass.old)) first past
         (stored_item (known_items o (view pass.old))) (held_unboxed o (view pass.new)).table }
+    ensures items { (place : ℕ) → place < length (known_items o (view pass.old)) →
+        (item_field (held_words o (view pass.new)).table place 1
+        ≡ item_field (held_words o (view pass.old)).table place 1)
+        × (item_field (held_words o (view pass.new)).table place 2
+        ≡ item_field (held_words o (view pass.old)).table place 2) }
     ensures content { (known_state o (view pass.old)).content ≡ content.List (known_items o (view pass.old)) }
     ensures head { IsBlock (held_unboxed o (view pass.new)).block (Some (class_of (table_id table)))
         (length (known_items o (view pass.old))) 0 0 }
@@ -171,7 +176,7 @@ pub(crate) fn add_in(
     ensures wrote { Wrote called.now reply.Done result (view pass.old) (view pass.new) }
     ensures root { root_in (held_unboxed o (view pass.new)) ≡ suc (table_id table) }
     ensures references { GivesReference (shape_of bank.now) (stored_in addition) (view pass.old) (view pass.new) }
-    ensures named { NamesAdded o (known_items o (view pass.old)) addition (view pass.new) }
+    ensures named { NamesAdded o (known_items o (view pass.old)) addition (view pass.old) (view pass.new) }
     ensures stored { (b : ℕ) → place_use b (view pass.new).log ≢ use_taken }
 {
     fill(bank, pass, o, old, table);

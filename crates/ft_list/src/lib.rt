@@ -30,6 +30,7 @@ mod removals;
 mod rooting;
 mod scans;
 mod searches;
+mod sharing;
 mod tries;
 mod turning;
 mod values;

@@ -217,7 +217,7 @@ pub(crate) fn add_items(
     ensures wrote { Wrote called.now reply.Done result (view pass.old) (view pass.new) }
     ensures root { root_in (held_unboxed o (view pass.new)) ≡ root_in (held_unboxed o (view pass.old)) }
     ensures references { GivesReference (shape_of bank.now) (stored_in addition) (view pass.old) (view pass.new) }
-    ensures named { NamesAdded o (known_items o (view pass.old)) addition (view pass.new) }
+    ensures named { NamesAdded o (known_items o (view pass.old)) addition (view pass.old) (view pass.new) }
     ensures stored { (b : ℕ) → place_use b (view pass.new).log ≢ use_taken }
 {
     begin(bank, pass, o, table);

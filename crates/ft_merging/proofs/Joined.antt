@@ -136,7 +136,7 @@ module _ (k : Shape) (o : ℕ) (by : Way) (own : Table) (t : ℕ) (table : Table
       there_low = subst (λ (y : Kind). at < rows y (class_of (table_id own))) (sym j.kind_is) room
 
       -- it isn't written yet
-      even : version_of (table_id own) (held_unboxed o v) at % 2 ≡ 0
+      pub even : version_of (table_id own) (held_unboxed o v) at % 2 ≡ 0
       even =
           ⊎_elim (λ (two : version_of (table_id own) (held_unboxed o v) at % 2 ≡ 0). two)
           (λ (odd : version_of (table_id own) (held_unboxed o v) at % 2 ≡ 1). absurd (ahead_here at key there_low odd fits live 0 e (omega arith) (ap is_some is) (sym same)))

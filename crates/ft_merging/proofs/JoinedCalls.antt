@@ -30,7 +30,7 @@ use Rattle.ft_search.specs.Rounds.{kind_by}
 use Rattle.ft_search.specs.OneEntryWrites.{Leaves}
 use Rattle.ft_search.proofs.Puts.{few_places}
 use Rattle.ft_new_keys.specs.KeyGrowth.{most_of}
-use Rattle.ft_merging.specs.Joining.{JoinsBy, JoinsKeys, join_takes, joined, joined_state, new_keys}
+use Rattle.ft_merging.specs.Joining.{AddsKeysOf, JoinsBy, JoinsKeys, join_takes, joined, joined_state, new_keys}
 use Rattle.ft_merging.proofs.Joined.{cap_few, joined_more}
 use Rattle.ft_merging.proofs.JoinedReads.{Source}
 use Rattle.ft_merging.proofs.JoinedRoom.{cap_is, most_joined, same_kept, taken_room}
@@ -84,20 +84,20 @@ joins_nothing k o t called v w what same few is =
     subst (λ (z : Option ℕ × Bool). IsAdded k z.0 z.1 called reply.Done v w what) (λ i. (sym takes i, sym over i)) is
 
 -- and what it comes to after loads, seen from before them
-pub joins_by : (k : Shape) (o t : ℕ) (called : Call) (v u w : View) (what : Added) → OnlyLoaded v u → IsAdded k (join_takes (known_state o u) (known_state t u).content) (passes_cap (joined (known_state o u).content (known_state t u).content)) called reply.Done u w what → JoinsBy k o t called v w what
+pub joins_by : (k : Shape) (o t : ℕ) (called : Call) (v u w : View) (what : Added) → OnlyLoaded v u → IsAdded k (join_takes (known_state o u) (known_state t u).content) (passes_cap (joined (known_state o u).content (known_state t u).content)) called reply.Done u w what → AddsKeysOf k o t called v w what
 joins_by k o t called v u w what only is =
     let mine = work_knows v u o only.work in
     let other = work_knows v u t only.work in
     (u, only, subst (λ (z : ContainerState × ContainerState). IsAdded k (join_takes z.0 z.1.content) (passes_cap (joined z.0.content z.1.content)) called reply.Done u w what) (λ i. (mine i, other i)) is)
 
-pub joins_then : (k : Shape) (o t : ℕ) (called : Call) (v u w : View) (what : Added) → OnlyLoaded v u → JoinsBy k o t called u w what → JoinsBy k o t called v w what
+pub joins_then : (k : Shape) (o t : ℕ) (called : Call) (v u w : View) (what : Added) → OnlyLoaded v u → AddsKeysOf k o t called u w what → AddsKeysOf k o t called v w what
 joins_then k o t called v u w what only is = joins_by k o t called v is.0 w what (loaded_then v u is.0 only is.1)
     (subst (λ (z : ContainerState × ContainerState). IsAdded k (join_takes z.0 z.1.content) (passes_cap (joined z.0.content z.1.content)) called reply.Done is.0 w what) (λ i. (sym (work_knows u is.0 o is.1.work) i, sym (work_knows u is.0 t is.1.work) i)) is.2)
 
 -- it leaves the cursors of its pass
 pub joins_cursors : (k : Shape) (o t : ℕ) (called : Call) (v w : View) (what : Added) → JoinsBy k o t called v w what → KeepsCursors v w
 joins_cursors k o t called v w what x number =
-    added_cursors _ k (join_takes (known_state o v) (known_state t v).content) (passes_cap (joined (known_state o v).content (known_state t v).content)) called reply.Done x.0 w what x.2 number ∙ x.1.work.pass.cursors number
+    added_cursors _ k (join_takes (known_state o v) (known_state t v).content) (passes_cap (joined (known_state o v).content (known_state t v).content)) called reply.Done x.0.0 w what x.0.2 number ∙ x.0.1.work.pass.cursors number
 
 -- ---- numbers
 

@@ -9,7 +9,7 @@ use Rattle.ft_keys.specs.declared.walk.Way.{Way}
 use Rattle.ft_trace.specs.declared.Shape.{Shape}
 use Rattle.ft_trace.specs.declared.View.{View}
 use Rattle.ft_trace.specs.Acts.{has_committed}
-use Rattle.ft_trace.specs.Addresses.{class_of, slots}
+use Rattle.ft_trace.specs.Addresses.{class_of, container_count, slots}
 use Rattle.ft_trace.specs.Holds.{held_words, held_unboxed, hand_unboxed, known_state}
 use Rattle.ft_trace.specs.Kinds.{rows, under}
 use Rattle.ft_trace.specs.Traces.{IsReachable}
@@ -38,7 +38,7 @@ use Rattle.ft_merging.proofs.Ending.{Laws}
 use Rattle.ft_merging.proofs.Joined.{joining_begins}
 use Rattle.ft_merging.proofs.JoinedPairs.{source_known}
 use Rattle.ft_merging.proofs.JoinedReads.{knows_put}
-use Rattle.ft_merging.proofs.JoinedStarts.{knows_rooted}
+use Rattle.ft_merging.proofs.JoinedStarts.{knows_rooted, same_rooted}
 
 module _ (heads : Heads) (laws : Laws) (k : Shape) (o : ℕ) (by : Way) (old : Option Table) (new : Table) (t : ℕ) (table : Table) (counts : Counts) (more : ℕ) (x y z : View) (shape : x.shape ≡ k) (possible : ∥ IsReachable x ∥₁) (two : o ≢ t) (may : MayGrowKeyed k o old new x) (other : KnowsKeyed k t (Some table) x) (kind_eq : kind_in k.starts o ≡ kind_by by) (kind_t : kind_in k.starts t ≡ kind_by by)
     (moved : HasMoved k o new x) (are : AreCounts (held_unboxed o x).block counts) (more_is : more ≡ new_keys (known_state o x).content (known_state t x).content) (cap : passes_cap (joined (known_state o x).content (known_state t x).content) ≡ false) (serials : serial_of (known_state o x).content + 65536 < 2 ^ 63) (room : counts.count + more ≤ rows (kind_in k.starts o) (class_of (table_id new)))
@@ -99,6 +99,16 @@ module _ (heads : Heads) (laws : Laws) (k : Shape) (o : ℕ) (by : Way) (old : O
       let r = begun.rooted in
       knows_put k o t (Some table) r z (ap (λ (w : View). w.shape) begun.is ∙ shape) two (written_then o r y z begun.only only)
       (knows_rooted k o t (suc (table_id new)) (root_in (held_words o x)) (Some table) x r begun.found shape begun.is begun.keeps two other)
+
+  -- and its words stand as they stood
+  pub others_on : (held_words t z ≡ held_words t x) × (held_unboxed t z ≡ held_unboxed t x)
+  others_on =
+      let r = begun.rooted in
+      let here = ap (λ (w : View). w.shape) begun.is ∙ shape in
+      let knows = knows_rooted k o t (suc (table_id new)) (root_in (held_words o x)) (Some table) x r begun.found shape begun.is begun.keeps two other in
+      let first = same_rooted k o t (suc (table_id new)) (root_in (held_words o x)) (Some table) x r begun.found shape begun.is begun.keeps two other in
+      let later = (written_then o r y z begun.only only).others t (subst (λ (s : Shape). t < container_count s) (sym here) knows.container) (λ e. two (sym e)) knows.locked knows.even in
+      (later.0 ∙ first.0, later.1 ∙ first.1)
 
   pub new_begins : IsJoining k o by new t table (joined (known_state o z).content (known_state t z).content) (counts.count + more) 0 all z
   new_begins =

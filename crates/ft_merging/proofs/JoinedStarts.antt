@@ -10,7 +10,7 @@ use Rattle.ft_trace.specs.declared.Shape.{Shape}
 use Rattle.ft_trace.specs.declared.View.{View}
 use Rattle.ft_trace.specs.Acts.{has_committed, has_lock, is_writing, view_after}
 use Rattle.ft_trace.specs.Addresses.{class_of, container_count}
-use Rattle.ft_trace.specs.Holds.{held_unboxed, known_state}
+use Rattle.ft_trace.specs.Holds.{held_words, held_unboxed, known_state}
 use Rattle.ft_trace.specs.Kinds.{IsKeyed, rows, under}
 use Rattle.ft_trace.specs.Traces.{IsReachable}
 use Rattle.ft_trace.specs.Pictures.{ContainerWords, Represents}
@@ -50,6 +50,13 @@ knows_rooted k o t root was old v u f shape is keeps two knows =
     let quiet : is_writing t (view_after (StartWrite o f) v).log ≡ is_writing t v.log = ap (λ (b : Bool). cond b true (is_writing t v.log)) (ne_eqb o t two) in
     let same = keeps t (subst (λ (z : Shape). t < container_count z) (sym shape) knows.container) knows.locked (quiet ∙ knows.even) in
     knows_on k t old v u same.2 same.1 (ap (λ (z : View). has_lock t z.log) is) (ap (λ (z : View). is_writing t z.log) is ∙ quiet) knows
+
+-- and the same words
+pub same_rooted : (k : Shape) (o t root was : ℕ) (old : Option Table) (v u : View) (f : ℕ) → v.shape ≡ k → u ≡ view_after (PutRoot o root was) (view_after (StartWrite o f) v) → KeepsUnwritten (view_after (StartWrite o f) v) u → o ≢ t → KnowsKeyed k t old v → (held_words t u ≡ held_words t v) × (held_unboxed t u ≡ held_unboxed t v)
+same_rooted k o t root was old v u f shape is keeps two knows =
+    let quiet : is_writing t (view_after (StartWrite o f) v).log ≡ is_writing t v.log = ap (λ (b : Bool). cond b true (is_writing t v.log)) (ne_eqb o t two) in
+    let same = keeps t (subst (λ (z : Shape). t < container_count z) (sym shape) knows.container) knows.locked (quiet ∙ knows.even) in
+    (same.0, same.2)
 
 -- a pass that may add a key may write
 pub may_write : (k : Shape) (o : ℕ) (old : Option Table) (v : View) → MayAddKey k o old v → MayWriteEntries k o v

@@ -11,7 +11,7 @@ use Rattle.ft_layout.specs.declared.slot.Pair.{Pair}
 use Rattle.ft_layout.specs.declared.slot.Stored.{Stored}
 use Rattle.ft_layout.specs.Containers.{class_mask, StandsAs}
 use Rattle.ft_layout.specs.Tables.{UsedEntry, hash_of}
-use Rattle.ft_layout.specs.Words.{FitsKey, FitsStored, entry_words, gone_kind, key_kind, key_payload}
+use Rattle.ft_layout.specs.Words.{FitsKey, FitsStored, entry_words, gone_kind, key_kind, key_payload, stored_kind, stored_payload}
 use Rattle.ft_layout.proofs.WordLaws.{gone_is, kind_range, same_key}
 use Rattle.ft_keys.specs.declared.walk.Way.{Way}
 use Rattle.ft_keys.specs.TableChanges.{FirstFree}
@@ -41,7 +41,7 @@ use Rattle.ft_new_keys.specs.KeyGrowth.{IsFreeFor}
 use Rattle.ft_new_keys.specs.Placing.{StoresAs, with_key}
 use Rattle.ft_new_keys.specs.Internal.Laying.{IsUnused, laid, with_entry}
 use Rattle.ft_new_keys.proofs.Keyed.{way_is}
-use Rattle.ft_new_keys.proofs.Placed.{Fresh, PlaceLaws, now, opened_now, pair_for, place_unused, right_in, use_with, next_payload, payload_laid, lacks}
+use Rattle.ft_new_keys.proofs.Placed.{Fresh, PlaceLaws, now, opened_now, said_now, pair_for, place_unused, right_in, use_with, next_payload, payload_laid, lacks}
 use Rattle.ft_new_keys.proofs.Stages.{At, body, body_puts, body_stage, opened}
 use Rattle.ft_merging.specs.Internal.JoiningSteps.{NoneAhead, NoneGone, NoneOf}
 use Rattle.ft_merging.specs.Internal.EntriesAtOnce.{IsMidway, version_of}
@@ -143,14 +143,14 @@ module _ (laws : PlaceLaws) (k : Shape) (o : ℕ) (by : Way) (own : Table) (mid 
       get_or-set_other (slice_set l (entry_offset n p 2) (key_kind key)) slot (entry_offset n q w) (p + 1) 0 (λ e. absurd (omega (arith, e, in_index)))
       ∙ (get_or-set_other l (entry_offset n p 2) (entry_offset n q w) (key_kind key) 0 (λ e. ne (omega (arith, e, few))) ∙ stage.rest q w ne few)
 
-  kind_now : entry_field n y.table p 2 ≡ key_kind key
+  pub kind_now : entry_field n y.table p 2 ≡ key_kind key
   kind_now =
       let in_index = un.in_index in
       let less = un.low in
       let long = stage.size in
       get_or-set_other (slice_set l (entry_offset n p 2) (key_kind key)) slot (entry_offset n p 2) (p + 1) 0 (λ e. absurd (omega (arith, e, in_index))) ∙ get_or-set_same l (entry_offset n p 2) (key_kind key) 0 (omega (arith, less, long))
 
-  payload_now : entry_field n y.table p 3 ≡ key_payload key
+  pub payload_now : entry_field n y.table p 3 ≡ key_payload key
   payload_now =
       let in_index = un.in_index in
       let less = un.low in
@@ -163,6 +163,10 @@ module _ (laws : PlaceLaws) (k : Shape) (o : ℕ) (by : Way) (own : Table) (mid 
 
   odd_now : version_of t y p % 2 ≡ 1
   odd_now = let o = opened_now laws k.texts x t slot counts mid key stored fresh_midway in let e = even_here in omega (arith, o, e)
+
+  -- the entry of the key reads what is stored
+  pub new_reads : (entry_field n y.table p 0 % 2 ≡ 1) × (entry_field n y.table p 4 ≡ stored_kind stored) × (entry_field n y.table p 5 ≡ stored_payload stored)
+  new_reads = let s = said_now laws k.texts x t slot counts mid key stored fresh_midway in (odd_now, s.1, s.2)
 
   says_now : StandsAs k.texts y.block (0 ∷ 0 ∷ y.table) (use_with c (p + 1)) news × (kind_of news ≡ kind_of mid)
   says_now = now laws k.texts x t slot counts mid key stored fresh_midway

@@ -17,3 +17,5 @@ pub mod JoinedCalls
 pub mod JoinedSame
 pub mod JoinedSearch
 pub mod Pairs
+pub mod SharedValues
+pub mod SharedKeys

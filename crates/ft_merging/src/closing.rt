@@ -11,7 +11,7 @@ ghost use Rattle.ft_bank.specs.PassSections.{stack_of};
 ghost use Rattle.ft_bank.specs.SameBoxes.{SameReferences};
 ghost use Rattle.ft_bank.specs.TableNames.{table_id};
 ghost use Rattle.ft_bank.specs.Whole.{EndsWrite, OnlyPut};
-ghost use Rattle.ft_merging.specs.Internal.EntriesAtOnce.{IsClosing, MayFinishAll};
+ghost use Rattle.ft_merging.specs.Internal.EntriesAtOnce.{IsClosing, KeepsEntries, MayFinishAll};
 
 use crate::reading::word_of;
 use ft_bank::{Bank, Pass, Table};
@@ -31,6 +31,7 @@ fn close_at(bank: &Bank, pass: &mut Pass, o: Object, table: Table, place: u64, f
     ensures only { OnlyPut o (view pass.old) (view pass.new) }
     ensures references { SameReferences (view pass.old) (view pass.new) }
     ensures closing { IsClosing (shape_of bank.now) o table (place + 1) fill (view pass.new) }
+    ensures keeps { KeepsEntries o (table_id table) (view pass.old) (view pass.new) }
 {
     let _ = fill;
     used_entries_follow_a_dict();
@@ -52,6 +53,7 @@ fn close_all(bank: &Bank, pass: &mut Pass, o: Object, table: Table, fill: u64)
     ensures only { OnlyPut o (view pass.old) (view pass.new) }
     ensures references { SameReferences (view pass.old) (view pass.new) }
     ensures closing { IsClosing (shape_of bank.now) o table fill fill (view pass.new) }
+    ensures keeps { KeepsEntries o (table_id table) (view pass.old) (view pass.new) }
 {
     for place in 0..fill {
         close_at(bank, pass, o, table, place, fill);
@@ -76,6 +78,7 @@ pub(crate) fn finish_entries(
     ensures stack { stack_of pass.new ≡ stack_of pass.old }
     ensures ends { EndsWrite called.now said.now result (view pass.old) (view pass.new) }
     ensures references { SameReferences (view pass.old) (view pass.new) }
+    ensures keeps { KeepsEntries o (table_id table) (view pass.old) (view pass.new) }
 {
     let number = bank.commit(pass, called, said);
     close_all(bank, pass, o, table, fill);

@@ -3,9 +3,13 @@
 //! is named twice is read as it stood before.
 ghost use Rattle.std.specs.Prelude.{◌≡◌, ◌≢◌, ◌+◌, ◌^◌, ◌<◌, ◌≤◌, false, Some, None, suc};
 ghost use Rattle.ft_model.specs.declared.reply.Reply.TheVariants as reply;
+ghost use Rattle.ft_model.specs.declared.script.Kind.TheVariants as kind;
+ghost use Rattle.ft_model.specs.declared.data.Key.{Key};
 ghost use Rattle.ft_model.specs.Classes.{IsClass};
 ghost use Rattle.ft_model.specs.TableUses.{passes_cap};
 ghost use Rattle.ft_model.specs.Worlds.{length_of, serial_of};
+ghost use Rattle.ft_layout.specs.declared.slot.Ref.{Ref};
+ghost use Rattle.ft_layout.specs.Words.{FitsKey};
 ghost use Rattle.ft_trace.specs.Acts.{flight, used};
 ghost use Rattle.ft_trace.specs.Addresses.{class_of};
 ghost use Rattle.ft_trace.specs.Holds.{held_unboxed, known_state};
@@ -16,11 +20,12 @@ ghost use Rattle.ft_bank.specs.PassSections.{stack_of};
 ghost use Rattle.ft_bank.specs.TableNames.{table_id};
 ghost use Rattle.ft_bank.specs.SameBoxes.{SameReferences};
 ghost use Rattle.ft_bank.specs.Whole.{Wrote};
-ghost use Rattle.ft_table_calls.specs.Adding.{IsAdded};
+ghost use Rattle.ft_table_calls.specs.Adding.{IsAdded, WasMade};
+ghost use Rattle.ft_search.specs.HeldValues.{NamesBoxAt};
 ghost use Rattle.ft_search.specs.Rounds.{kind_by};
 ghost use Rattle.ft_search.specs.OneEntryWrites.{MayWriteEntries};
 ghost use Rattle.ft_new_keys.specs.KeyGrowth.{KnowsKeyed, MayAddKey, MayGrowKeyed};
-ghost use Rattle.ft_merging.specs.Joining.{JoinsBy, JoinsKeys, join_takes, joined};
+ghost use Rattle.ft_merging.specs.Joining.{HaveEqual, JoinsBy, JoinsKeys, SharesValues, join_takes, joined};
 ghost use Rattle.ft_merging.specs.Merging.{MayMerge};
 
 use crate::counting::count_new;
@@ -61,6 +66,7 @@ fn join_here(
     ensures stack { stack_of pass.new ≡ stack_of pass.old }
     ensures added { IsAdded (shape_of bank.now) None false called.now reply.Done (view pass.old) (view pass.new)
         result }
+    ensures shares { kind_by way ≡ kind.Dict → SharesValues merge.now.o merge.now.t (view pass.old) (view pass.new) }
 {
     used_entries_follow_a_dict();
     used_entries_follow_a_set();
@@ -109,6 +115,7 @@ fn join_in_new(
     ensures wrote { Wrote called.now reply.Done result (view pass.old) (view pass.new) }
     ensures references { SameReferences (view pass.old) (view pass.new) }
     ensures root { root_in (held_unboxed merge.now.o (view pass.new)) ≡ suc (table_id new) }
+    ensures shares { kind_by way ≡ kind.Dict → SharesValues merge.now.o merge.now.t (view pass.old) (view pass.new) }
 {
     used_entries_follow_a_dict();
     used_entries_follow_a_set();
@@ -178,6 +185,8 @@ fn join_in_taken(
     ensures stack { stack_of pass.new ≡ stack_of pass.old }
     ensures added { IsAdded (shape_of bank.now) (Some class) false called.now reply.Done (view pass.old) (view pass.new)
         result }
+    ensures shares { kind_by way ≡ kind.Dict → WasMade result →
+        SharesValues merge.now.o merge.now.t (view pass.old) (view pass.new) }
 {
     match take(bank, pass, class) {
         Took::Taken(new) => {
@@ -212,6 +221,8 @@ fn join_in_old(
     ensures stack { stack_of pass.new ≡ stack_of pass.old }
     ensures added { IsAdded (shape_of bank.now) None false called.now reply.Done (view pass.old) (view pass.new)
         result }
+    ensures shares { kind_by way ≡ kind.Dict → WasMade result →
+        SharesValues merge.now.o merge.now.t (view pass.old) (view pass.new) }
 {
     used_entries_follow_a_dict();
     used_entries_follow_a_set();
@@ -243,6 +254,8 @@ fn join_more(
         (passes_cap (joined (known_state merge.now.o (view pass.old)).content
         (known_state merge.now.t (view pass.old)).content))
         called.now reply.Done (view pass.old) (view pass.new) result }
+    ensures shares { kind_by way ≡ kind.Dict → WasMade result →
+        SharesValues merge.now.o merge.now.t (view pass.old) (view pass.new) }
 {
     used_entries_follow_a_dict();
     used_entries_follow_a_set();
@@ -305,6 +318,8 @@ fn join_nothing(bank: &Bank, pass: &mut Pass, o: Object, t: Object, called: &Cal
     requires joins { JoinsKeys o t called.now (view pass.old) }
     requires same { joined (known_state o (view pass.old)).content (known_state t (view pass.old)).content
         ≡ (known_state o (view pass.old)).content }
+    requires equal { kind_in (shape_of bank.now).starts t ≡ kind.Dict → (key : Key) (b : Ref) → FitsKey key →
+        NamesBoxAt t key b (view pass.old) → HaveEqual o t key (view pass.old) }
     ensures pass { IsPassOf bank.now pass.new }
     ensures stack { stack_of pass.new ≡ stack_of pass.old }
     ensures added { IsAdded (shape_of bank.now)
@@ -312,6 +327,8 @@ fn join_nothing(bank: &Bank, pass: &mut Pass, o: Object, t: Object, called: &Cal
         (passes_cap (joined (known_state o (view pass.old)).content (known_state t (view pass.old)).content))
         called.now reply.Done
         (view pass.old) (view pass.new) result }
+    ensures shares { kind_in (shape_of bank.now).starts t ≡ kind.Dict →
+        SharesValues o t (view pass.old) (view pass.new) }
 {
     used_entries_follow_a_dict();
     used_entries_follow_a_set();
@@ -320,7 +337,9 @@ fn join_nothing(bank: &Bank, pass: &mut Pass, o: Object, t: Object, called: &Cal
 
 /// Puts the keys of a dict or a set into another one of the same kind, as the write of the call, by a pass that has the
 /// locks of both: those that are new in their order, after the others, and in a dict its values at those that are there.
-/// One that is named twice stays as it is. The version of each entry that is written is odd meanwhile, and no other.
+/// One that is named twice stays as it is. A value of a dict that stands in a box stands in that box in both then; where
+/// an equal value is at the key already, that one stays. The version of each entry that is written is odd meanwhile, and
+/// no other.
 ///
 /// # Errors
 ///
@@ -341,6 +360,7 @@ pub fn join_by(bank: &Bank, pass: &mut Pass, o: Object, t: Object, way: Way, cal
     ensures stack { stack_of pass.new ≡ stack_of pass.old }
     ensures added { JoinsBy (shape_of bank.now) o t called.now (view pass.old) (view pass.new) result }
 {
+    used_entries_follow_a_dict();
     if o == t {
         return join_nothing(bank, pass, o, t, called);
     }

@@ -12,6 +12,7 @@ mod merging;
 mod parting;
 mod putting;
 mod reading;
+mod sharing;
 mod thinning;
 
 pub use crate::joining::join_by;

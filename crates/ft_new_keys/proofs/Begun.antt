@@ -56,7 +56,7 @@ module _ (k : Shape) (o : ℕ) (old : Option Table) (table : Table) (v s r : Vie
   low = subst (λ (z : Shape). o < container_count z) (sym shape) may.keyed.container
 
   made_r : SameMade v r
-  made_r = subst (SameMade v) (sym is_rooted) (record { state = λ b. refl; local = λ b. refl; taken = λ b. refl; places = λ b. refl; uses = λ b. refl })
+  made_r = subst (SameMade v) (sym is_rooted) (record { state = λ b. refl; local = λ b. refl; taken = λ b. refl; places = λ b. refl; uses = λ b. refl; raised = λ b. refl })
 
   root_r : root_in (held_words o r) ≡ suc (table_id table)
   root_r =

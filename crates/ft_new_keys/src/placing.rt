@@ -23,7 +23,7 @@ ghost use Rattle.ft_boxes.specs.References.{KeepsValues};
 ghost use Rattle.ft_new_keys.specs.Placing.{counted};
 ghost use Rattle.ft_new_keys.specs.Internal.Laying.{IsUnused, laid, with_entry, with_pair};
 ghost use Rattle.ft_search.specs.TableWords.{CanLoad, MadeAccess, MayMake, MayPutAny, SamePlace};
-ghost use Rattle.ft_search.specs.OneEntryWrites.{WritesEntries};
+ghost use Rattle.ft_search.specs.OneEntryWrites.{KeepsOtherEntries, WritesEntries};
 
 use crate::counts::{COUNT, Counts, FILL, NEXT};
 use ft_bank::{Bank, Pass, Table};
@@ -53,6 +53,7 @@ pub fn put_counts(
       block = counted (held_unboxed o (view pass.old)).block count fill next;
       table = (held_unboxed o (view pass.old)).table;
     } }
+    ensures raw { (held_words o (view pass.new)).table ≡ (held_words o (view pass.old)).table }
 {
     let _ = table;
     bank.put_block(pass, o, COUNT, count);
@@ -79,6 +80,8 @@ fn place_in(words: &mut TableWords<'_>, slot: u64, place: u64, pair: &Pair)
     ensures only { OnlyPut words.old.o (view words.old.pass.now) (view words.new.pass.now) }
     ensures references { SameReferences (view words.old.pass.now) (view words.new.pass.now) }
     ensures values { KeepsValues (view words.old.pass.now) (view words.new.pass.now) }
+    ensures others { KeepsOtherEntries words.old.o (table_id words.old.table) place (view words.old.pass.now)
+        (view words.new.pass.now) }
     ensures words { held_unboxed words.old.o (view words.new.pass.now) ≡ record {
       block = (held_unboxed words.old.o (view words.old.pass.now)).block;
       table = laid (slots (class_of (table_id words.old.table))) (place_puts slot place (entry_words pair.now))
@@ -104,6 +107,7 @@ fn put_pair(bank: &Bank, pass: &mut Pass, o: u32, table: Table, slot: u64, place
     ensures only { OnlyWritten o (view pass.old) (view pass.new) }
     ensures references { SameReferences (view pass.old) (view pass.new) }
     ensures values { KeepsValues (view pass.old) (view pass.new) }
+    ensures others { KeepsOtherEntries o (table_id table) place (view pass.old) (view pass.new) }
     ensures words { held_unboxed o (view pass.new) ≡ record {
       block = (held_unboxed o (view pass.old)).block;
       table = with_pair (table_id table) slot place pair.now (held_unboxed o (view pass.old));
@@ -150,6 +154,7 @@ pub fn put_key(
     ensures only { OnlyWritten o (view pass.old) (view pass.new) }
     ensures references { SameReferences (view pass.old) (view pass.new) }
     ensures values { KeepsValues (view pass.old) (view pass.new) }
+    ensures others { KeepsOtherEntries o (table_id table) counts.fill (view pass.old) (view pass.new) }
     ensures words { held_unboxed o (view pass.new)
         ≡ with_entry (table_id table) slot counts pair.now (held_unboxed o (view pass.old)) }
 {

@@ -1,4 +1,12 @@
 pub mod Numbered
+mod NumberedEntries
+mod SharedTables
+mod SharedDicts
+mod CopiedBoxes
+mod NamedRows
+mod RaisedRows
+pub mod PlainFills
+mod Emptied
 mod Swapped
 mod Swaps
 pub mod Replaced

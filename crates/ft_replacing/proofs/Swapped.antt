@@ -19,7 +19,7 @@ use Rattle.ft_trace.specs.Pictures.{root_in, Represents}
 use Rattle.ft_trace.specs.ContainerStates.{changes, kind_in, kinds_in}
 use Rattle.ft_trace.proofs.Cases.{hit, miss}
 use Rattle.ft_trace.proofs.Untouched.{untouched_in}
-use Rattle.ft_bank.specs.SameBoxes.{LosesReferences, MovesReferences, SameMade, StaysSettled, named_in_words}
+use Rattle.ft_bank.specs.SameBoxes.{LosesReferences, MovesReferences, SameMade, StaysSettled, named_in_words, times_raised}
 use Rattle.ft_bank.specs.Whole.{OnlyPut, OnlyWritten, Wrote, write_entry}
 use Rattle.ft_bank.specs.WriteSteps.{Committed, KeepsUnwritten}
 use Rattle.ft_bank.proofs.DoneBoxes.{none_taken, settled_same}
@@ -78,10 +78,11 @@ module _ (called : Call) (said : Reply) (number f t g : ℕ) (snap : Snap) (v d 
 
   swapped_loses : MovesReferences at begun bare → OnlyWritten at bare d → MovesReferences at made rooted → OnlyPut at rooted u → LosesReferences at v done
   swapped_loses moves drops moved puts b =
-      let one : references_held d.shape b d.log + names b d ≤ references_held v.shape b v.log + names b v = subst (λ (m : ℕ). references_held d.shape b d.log + names b d ≤ m) (moves b) (drops.loses b) in
+      let one : references_held d.shape b d.log + names b d + times_raised b v.log ≤ references_held v.shape b v.log + names b v + times_raised b d.log = subst (λ (m : ℕ). references_held d.shape b d.log + names b d + times_raised b v.log ≤ m + times_raised b d.log) (moves b) (drops.loses b) in
       let two : references_held rooted.shape b rooted.log + names b rooted ≡ references_held d.shape b d.log + names b d = moved b in
       let three : references_held done.shape b done.log + names b done ≡ references_held rooted.shape b rooted.log + names b rooted = puts.moves b in
-      omega (arith, one, two, three)
+      let four : times_raised b done.log ≡ times_raised b d.log = puts.made.raised b in
+      omega (arith, one, two, three, four)
 
   -- the write has stored each box whose place the pass had taken
   swapped_settles : StaysSettled bare d → SameMade rooted u → StaysSettled v done

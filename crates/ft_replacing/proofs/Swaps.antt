@@ -15,34 +15,32 @@ use Rattle.ft_trace.specs.declared.Act.TheVariants.{Commit, PutRoot, StartWrite,
 use Rattle.ft_trace.specs.declared.Shape.{Shape}
 use Rattle.ft_trace.specs.declared.Snap.{Snap}
 use Rattle.ft_trace.specs.declared.View.{View}
-use Rattle.ft_trace.specs.Acts.{has_committed, has_lock, is_writing, mem, view_after, owes, seen_writes, stage, stage_next}
-use Rattle.ft_trace.specs.Addresses.{container_count, class_of, size, at, block, cell, IsTableName}
-use Rattle.ft_trace.specs.Boxes.{known_box_word, named_in_root, place_use, references_held, use_taken, IsSettled}
+use Rattle.ft_trace.specs.Acts.{has_committed, has_lock, is_writing, view_after, owes, seen_writes, stage, stage_next}
+use Rattle.ft_trace.specs.Addresses.{container_count, class_of, IsTableName}
+use Rattle.ft_trace.specs.Boxes.{knows_box_word, named_in_root, place_use, references_held, use_taken, IsSettled}
 use Rattle.ft_trace.specs.Holds.{held_words, held_unboxed, hand_unboxed, in_hand, known_state}
 use Rattle.ft_trace.specs.Kinds.{IsKeyed, rows, version_at, SoundAs}
 use Rattle.ft_trace.specs.OddVersions.{Shut}
 use Rattle.ft_trace.specs.Traces.{IsReachable}
 use Rattle.ft_trace.specs.Pictures.{ContainerWords, root_in, Represents}
 use Rattle.ft_trace.specs.ContainerStates.{ContainerState, changes, kind_in, kinds_in}
-use Rattle.ft_trace.proofs.Addresses.{at_apart}
 use Rattle.ft_trace.proofs.Cases.{hit, miss}
 use Rattle.ft_trace.proofs.DictWrites.{FirstEntriesArePairs}
-use Rattle.ft_trace.proofs.Pieces.{table_same}
 use Rattle.ft_trace.proofs.SetKnown.{FirstEntriesAreElements}
 use Rattle.ft_bank.specs.declared.table.Table.{Table}
 use Rattle.ft_bank.specs.TableNames.{IsTableIn, root_for, table_id}
-use Rattle.ft_bank.specs.SameBoxes.{MovesReferences, SameReferences, StaysSettled, named_in_words}
+use Rattle.ft_bank.specs.SameBoxes.{GainsRaised, MovesReferences, SameReferences, StaysSettled, named_in_words}
 use Rattle.ft_bank.specs.Whole.{OnlyBoxed, OnlyPut, OnlyWritten, Wrote}
-use Rattle.ft_bank.specs.WriteSteps.{Committed, IsShut, KeepsUnwritten, MayCommit, MayHave, MayPutRoot, with_unboxed_root}
+use Rattle.ft_bank.specs.WriteSteps.{Committed, IsShut, KeepsUnwritten, MayCommit, MayHave, MayPutRoot, with_root, with_unboxed_root}
 use Rattle.ft_bank.proofs.TableAddresses.{named}
-use Rattle.ft_bank.proofs.DoneBoxes.{none_named}
-use Rattle.ft_bank.proofs.KnownAfterWrites.{boxed_written, work_knows}
+use Rattle.ft_bank.proofs.DoneBoxes.{none_named, none_taken, settled_then}
+use Rattle.ft_bank.proofs.KnownAfterWrites.{boxed_then, gains_fewer, gains_then, raised_written, work_knows}
 use Rattle.ft_bank.proofs.WordsPut.{taken_words}
-use Rattle.ft_table_calls.proofs.Dropped.{dropped_named, hand_same, holds_named}
-use Rattle.ft_table_calls.proofs.PlainTables.{ArePlain, plain_named, plain_reads}
+use Rattle.ft_table_calls.proofs.Dropped.{hand_same, taken_named}
+use Rattle.ft_search.proofs.Overs.{boxed_held}
 use Rattle.ft_search.proofs.Calling.{plain_replied}
 use Rattle.ft_search.proofs.Changing.{kind_is, shut_known}
-use Rattle.ft_search.proofs.Puts.{few_done, keyed_value, keyed_version, table_class}
+use Rattle.ft_search.proofs.Puts.{few_done, keyed_version, table_class}
 use Rattle.ft_new_keys.specs.Fresh.{IsFilledWith}
 use Rattle.ft_new_keys.specs.KeyGrowth.{HoldsOld, MayGrowKeyed, named_in_old}
 use Rattle.ft_new_keys.specs.Placing.{counted}
@@ -50,6 +48,10 @@ use Rattle.ft_new_keys.proofs.Keyed.{Heads}
 use Rattle.ft_new_keys.proofs.Placed.{counted_head, kind_shut, use_with}
 use Rattle.ft_new_keys.proofs.Rooted.{rooted_head, sound_in}
 use Rattle.ft_replacing.specs.Replacing.{Replaces, replaced_table}
+use Rattle.ft_replacing.specs.Sharing.{IsNamedBy, NamesOthers}
+use Rattle.ft_replacing.proofs.Emptied.{Emptied, fresh_emptied, hand_emptied, locks_emptied, others_emptied, rooted_twice}
+use Rattle.ft_replacing.proofs.NamedRows.{SameBut, is_known, others_on, others_read}
+use Rattle.ft_replacing.proofs.RaisedRows.{named_some, rows_few, sum_few}
 use Rattle.ft_replacing.proofs.Swapped.{swapped_write}
 
 -- a block whose root names no table
@@ -66,32 +68,22 @@ no_root b class count fill next h =
       spare = (other 4 (λ e. absurd (omega (arith, e))) ∙ h.spare.0, other 5 (λ e. absurd (omega (arith, e))) ∙ h.spare.1);
     }
 
--- a root that is put leaves the words of a table
-hand_stays : (k : Shape) (o t x : ℕ) (ws : List ℕ) → o < container_count k → IsTableName k t → (i : ℕ) → i < size (class_of t) → slice_index (slice_set ws (at k (block o 0)) x) (at k (cell t i)) ≡ slice_index ws (at k (cell t i))
-hand_stays k o t x ws low table i small =
-    get_or-set_other ws (at k (block o 0)) (at k (cell t i)) x 0
-    (λ e. let same = at_apart k (cell t i) (block o 0) (table, small) (low, omega arith) e in absurd (cc))
-
--- The pass knew v, where the table is fresh in its hand and has what the container o is to get. It made the version of
--- o odd, put 0 into its root: then it knew r; and dropped the references that its words had: then it knows d.
-pub record Swapping (k : Shape) (o : ℕ) (old : Option Table) (table : Table) (called : Call) (left : Content) (f : ℕ) (v s r d : View) : Type 0 where
+-- After that it raised the counts of the boxes that the new table names, which has what the container is to get: then it
+-- knew x; and it dropped the references that its words had: then it knows d.
+pub record Swapping (k : Shape) (o : ℕ) (old : Option Table) (table : Table) (called : Call) (left : Content) (f : ℕ) (v s r x d : View) : Type 0 where
   pub first_pair : FirstEntriesArePairs
   pub first_element : FirstEntriesAreElements
-  pub heads : Heads
-  pub may : MayGrowKeyed k o old table v
-  pub shape : v.shape ≡ k
-  pub possible : ∥ IsReachable v ∥₁
-  pub other : root_in (held_unboxed o v) ≢ suc (table_id table)
+  pub before : Emptied k o old table f v s r
   pub kind_is : kind_of left ≡ kind_in k.starts o
-  pub filled : IsFilledWith k.texts (class_of (table_id table)) left (in_hand (table_id table) v)
+  pub filled : IsFilledWith k.texts (class_of (table_id table)) left (hand_unboxed o (table_id table) v)
   pub replaces : Replaces o called left (Some (class_of (table_id table))) v
-  pub started : s ≡ view_after (StartWrite o f) v
-  pub rooted : r ≡ view_after (PutRoot o 0 (root_in (held_words o s))) s
-  pub root_held : held_unboxed o r ≡ with_unboxed_root (held_unboxed o s) o None s
-  pub moves : MovesReferences o s r
-  pub drops : OnlyBoxed r d
-  pub made : StaysSettled r d
-  pub dropped : (b : ℕ) → references_held k b d.log + named_in_old k o old r b ≡ references_held k b r.log
+  pub raises : OnlyBoxed r x
+  pub stays : StaysSettled r x
+  pub gains : GainsRaised r x
+  pub raised : (b : ℕ) → references_held k b x.log ≡ references_held k b r.log + named_in_root b (kind_in k.starts o) (suc (table_id table)) (in_hand (table_id table) r)
+  pub drops : OnlyBoxed x d
+  pub made : StaysSettled x d
+  pub dropped : (b : ℕ) → references_held k b d.log + named_in_old k o old x b ≡ references_held k b x.log
 
 -- 0 may be put into the root
 pub may_put_none : (k : Shape) (o : ℕ) (old : Option Table) (table : Table) (v s : View) (f : ℕ) → v.shape ≡ k → ∥ IsReachable v ∥₁ → MayGrowKeyed k o old table v → s ≡ view_after (StartWrite o f) v → MayPutRoot s o None
@@ -162,80 +154,130 @@ module _ (heads : Heads) (k : Shape) (o : ℕ) (old : Option Table) (table : Tab
         let name = subst (λ (z : Shape). IsTableName z (table_id t)) (sym shape_started) (named k t (may.keyed.table_in t has)) in
         ap (in_hand (table_id t)) rooted ∙ taken_words s o (table_id t) 0 (root_in (held_words o s)) low name was_root
 
-  pub old_held : HoldsOld k o old r
-  old_held = by old refl
+  -- the references of that one came to the pass, which held none
+  pub old_counts : (b : ℕ) → references_held k b r.log ≡ named_in_old k o old r b
+  old_counts b = by old refl
     where
-      by : (any : Option Table) → old ≡ any → HoldsOld k o any r
-      by None has = λ b. omega arith
-      by (Some t) has = holds_named k o (table_id t) s r shape_started shape_rooted moves (was_root t has) (was_hand t has) names_none
+      before : references_held k b s.log ≡ 0
+      before = ap (λ (z : View). references_held k b z.log) started ∙ may.boxes.none b
 
-  -- once its references are dropped the pass holds none
-  pub old_dropped : (d : View) → d.shape ≡ r.shape → ((b : ℕ) → references_held k b d.log + named_in_old k o old r b ≡ references_held k b r.log) → (b : ℕ) → references_held k b d.log ≡ 0
-  old_dropped d same dropped b = by old refl dropped
-    where
-      before : references_held s.shape b s.log ≡ 0
-      before = ap (λ (z : Shape). references_held z b s.log) shape_started ∙ (ap (λ (z : View). references_held k b z.log) started ∙ may.boxes.none b)
-
-      by : (any : Option Table) → old ≡ any → ((n : ℕ) → references_held k n d.log + named_in_old k o any r n ≡ references_held k n r.log) → references_held k b d.log ≡ 0
-      by (Some t) has less =
-          ap (λ (z : Shape). references_held z b d.log) (sym (same ∙ (shape_rooted ∙ shape_started)))
-          ∙ (dropped_named k o (table_id t) s r d shape_started shape_rooted same moves (was_root t has) (was_hand t has) names_none less b ∙ before)
-      by None has less =
+      by : (any : Option Table) → old ≡ any → references_held k b r.log ≡ named_in_old k o any r b
+      by (Some t) has =
+          let e = taken_named k o (table_id t) s r shape_started shape_rooted moves (was_root t has) (was_hand t has) names_none b in
+          omega (arith, e, before)
+      by None has =
           let bare_before = none_named b (kind_in s.shape.starts o) (held_words o s) (names_old ∙ ap root_for has) in
           let moved = moves b in
           let after = names_none b in
+          let was : references_held s.shape b s.log ≡ references_held k b s.log = ap (λ (z : Shape). references_held z b s.log) shape_started in
           let now : references_held k b r.log ≡ references_held r.shape b r.log = ap (λ (z : Shape). references_held z b r.log) (sym (shape_rooted ∙ shape_started)) in
-          let all = less b in
-          omega (arith, bare_before, moved, after, before, now, all)
+          omega (arith, bare_before, moved, after, was, before, now)
 
-module _ (k : Shape) (o : ℕ) (old : Option Table) (table : Table) (called : Call) (left : Content) (f : ℕ) (v s r d : View) (e : Swapping k o old table called left f v s r d) where
+  -- they are few for each box
+  pub old_few : (b : ℕ) → references_held k b r.log ≤ 65536
+  old_few b = by old refl
+    where
+      by : (any : Option Table) → old ≡ any → references_held k b r.log ≤ 65536
+      by (Some t) has =
+          let counts = old_counts b in
+          let is : named_in_old k o old r b ≡ named_in_old k o (Some t) r b = ap (λ (z : Option Table). named_in_old k o z r b) has in
+          let low = sum_few b (kind_in k.starts o) (class_of (table_id t)) (in_hand (table_id t) r) (rows (kind_in k.starts o) (class_of (table_id t))) in
+          let most = rows_few (kind_in k.starts o) (class_of (table_id t)) (table_class k t (may.keyed.table_in t has)) in
+          omega (arith, counts, is, low, most)
+      by None has =
+          let counts = old_counts b in
+          let is : named_in_old k o old r b ≡ named_in_old k o None r b = ap (λ (z : Option Table). named_in_old k o z r b) has in
+          omega (arith, counts, is)
+
+  -- the pass has raised counts since
+  module _ (x : View) (raises : OnlyBoxed r x) (more : (b : ℕ) → references_held k b r.log ≤ references_held k b x.log) where
+    pub raised_out : (t : Table) → old ≡ Some t → IsTableIn k t × (stage (table_id t) x.log ≡ 3)
+    raised_out t is = let out = old_out t is in (out.0, raises.work.hands (table_id t) ∙ out.1)
+
+    pub raised_old : (b : ℕ) → named_in_old k o old x b ≡ named_in_old k o old r b
+    raised_old b = by old
+      where
+        by : (any : Option Table) → named_in_old k o any x b ≡ named_in_old k o any r b
+        by (Some t) = ap (named_in_root b (kind_in k.starts o) (suc (table_id t))) (hand_same r x (table_id t) raises.work.pass.shape raises.words)
+        by None = refl
+
+    pub raised_held : HoldsOld k o old x
+    raised_held b = let same = raised_old b in let counts = old_counts b in let up = more b in omega (arith, same, counts, up)
+
+module _ (k : Shape) (o : ℕ) (old : Option Table) (table : Table) (called : Call) (left : Content) (f : ℕ) (v s r x d : View) (e : Swapping k o old table called left f v s r x d) where
   abbrev t : ℕ
   t = table_id table
 
   abbrev class : ℕ
   class = class_of (table_id table)
 
+  -- the words of the new table as they stand, and as they read
+  abbrev raw : List ℕ
+  raw = in_hand (table_id table) v
+
   abbrev ws : List ℕ
-  ws = in_hand (table_id table) v
+  ws = hand_unboxed o (table_id table) v
 
   both_rooted : r ≡ view_after (PutRoot o 0 (root_in (held_words o v))) (view_after (StartWrite o f) v)
-  both_rooted = e.rooted ∙ ap (λ (z : View). view_after (PutRoot o 0 (root_in (held_words o z))) z) e.started
+  both_rooted = rooted_twice k o old table f v s r e.before
+
+  -- the raises and the drops
+  both : OnlyBoxed r d
+  both = boxed_then r x d e.raises e.drops
 
   shape_bare : r.shape ≡ v.shape
   shape_bare = ap (λ (z : View). z.shape) both_rooted
 
   known_then : (p : ℕ) → known_state p d ≡ known_state p v
-  known_then p = work_knows r d p e.drops.work ∙ ap (λ (z : View). known_state p z) both_rooted
+  known_then p = work_knows r d p both.work ∙ ap (λ (z : View). known_state p z) both_rooted
 
   shape_then : d.shape ≡ v.shape
-  shape_then = e.drops.work.pass.shape ∙ shape_bare
+  shape_then = both.work.pass.shape ∙ shape_bare
 
   locks_then : (p : ℕ) → has_lock p d.log ≡ has_lock p v.log
-  locks_then p = e.drops.work.pass.locks p ∙ ap (λ (z : View). has_lock p z.log) both_rooted
+  locks_then p = both.work.pass.locks p ∙ ap (λ (z : View). has_lock p z.log) both_rooted
 
-  -- the pass holds no references once they are dropped
-  none_held : (n : ℕ) → references_held k n d.log ≡ 0
-  none_held = old_dropped e.heads k o old table f v s r e.shape e.may e.started e.rooted e.root_held e.moves d e.drops.work.pass.shape e.dropped
+  hand_bare : in_hand t r ≡ raw
+  hand_bare = hand_emptied k o old table f v s r e.before
+
+  -- the pass holds the references that the new table wants
+  all_held : (n : ℕ) → references_held k n d.log ≡ named_in_root n (kind_in k.starts o) (suc t) raw
+  all_held n =
+      let counts = old_counts e.before.heads k o old table f v s r e.before.shape e.before.may e.before.started e.before.rooted e.before.root_held e.before.moves n in
+      let more = e.raised n in
+      let less = e.dropped n in
+      let up : (b : ℕ) → references_held k b r.log ≤ references_held k b x.log = λ b. let m = e.raised b in omega (arith, m) in
+      let same = raised_old e.before.heads k o old table f v s r e.before.shape e.before.may e.before.started e.before.rooted e.before.root_held e.before.moves x e.raises up n in
+      let bare : named_in_root n (kind_in k.starts o) (suc t) (in_hand t r) ≡ named_in_root n (kind_in k.starts o) (suc t) raw = ap (named_in_root n (kind_in k.starts o) (suc t)) hand_bare in
+      omega (arith, counts, more, less, same, bare)
 
   -- what the pass did since the root was put
   written : OnlyWritten o r d
-  written = boxed_written o r d e.drops e.made (λ b. let none = ap (λ (z : Shape). references_held z b d.log) (shape_then ∙ e.shape) ∙ none_held b in omega (arith, none))
+  written =
+      let shape_x : x.shape ≡ k = e.raises.work.pass.shape ∙ (shape_bare ∙ e.before.shape) in
+      let shape_d : d.shape ≡ k = e.drops.work.pass.shape ∙ shape_x in
+      let fewer : (n : ℕ) → references_held d.shape n d.log ≤ references_held x.shape n x.log = λ n.
+      let now = ap (λ (z : Shape). references_held z n d.log) shape_d in
+      let was = ap (λ (z : Shape). references_held z n x.log) shape_x in
+      let less = e.dropped n in
+      omega (arith, now, was, less) in
+      raised_written o r d both (settled_then r x d e.stays e.made) (gains_then r x d e.gains (gains_fewer x d e.drops fewer))
 
   -- the drops leave what the words read
   drops_read : held_unboxed o d ≡ held_unboxed o r
   drops_read =
-      e.drops.unboxed o (subst (λ (z : Shape). o < container_count z) (sym (shape_bare ∙ e.shape)) e.may.keyed.container)
-      (ap (λ (z : View). has_lock o z.log) both_rooted ∙ e.may.keyed.locked)
+      both.unboxed o (subst (λ (z : Shape). o < container_count z) (sym (shape_bare ∙ e.before.shape)) e.before.may.keyed.container)
+      (ap (λ (z : View). has_lock o z.log) both_rooted ∙ e.before.may.keyed.locked)
 
   keyed : IsKeyed (kind_of left)
-  keyed = subst IsKeyed (sym e.kind_is) e.may.keyed.keyed
+  keyed = subst IsKeyed (sym e.kind_is) e.before.may.keyed.keyed
 
   is_class : IsClass class
-  is_class = table_class k table e.may.table_in
+  is_class = table_class k table e.before.may.table_in
 
   -- the block before the write
   old_head : IsBlock (held_unboxed o v).block (known_state o v).table.class (length_of (known_state o v).content) (known_state o v).table.fill (serial_of (known_state o v).content)
-  old_head = e.heads k.texts (held_unboxed o v).block (0 ∷ 0 ∷ (held_unboxed o v).table) (known_state o v).table (known_state o v).content e.may.keyed.stands
+  old_head = e.before.heads k.texts (held_unboxed o v).block (0 ∷ 0 ∷ (held_unboxed o v).table) (known_state o v).table (known_state o v).content e.before.may.keyed.stands
 
   abbrev b : List ℕ
   b = slice_set (held_unboxed o v).block 0 0
@@ -244,7 +286,7 @@ module _ (k : Shape) (o : ℕ) (old : Option Table) (table : Table) (called : Ca
   bare_head = no_root (held_unboxed o v).block (known_state o v).table.class (length_of (known_state o v).content) (known_state o v).table.fill (serial_of (known_state o v).content) old_head
 
   held_then : held_unboxed o d ≡ record { block = b; table = [] }
-  held_then = drops_read ∙ (e.root_held ∙ ap (λ (z : View). with_unboxed_root (held_unboxed o z) o None z) e.started)
+  held_then = drops_read ∙ (e.before.root_held ∙ ap (λ (z : View). with_unboxed_root (held_unboxed o z) o None z) e.before.started)
 
   root_then : root_in (held_unboxed o d) ≡ 0
   root_then = ap root_in held_then ∙ bare_head.root
@@ -256,7 +298,7 @@ module _ (k : Shape) (o : ℕ) (old : Option Table) (table : Table) (called : Ca
   last_head : IsBlock last (Some class) (length_of left) (length_of left) (serial_of left)
   last_head =
       counted_head (slice_set b 0 (suc t)) (Some class) (length_of (known_state o v).content) (known_state o v).table.fill (serial_of (known_state o v).content) (length_of left) (length_of left) (serial_of left)
-      (rooted_head b None k table (length_of (known_state o v).content) (known_state o v).table.fill (serial_of (known_state o v).content) bare_head e.may.table_in)
+      (rooted_head b None k table (length_of (known_state o v).content) (known_state o v).table.fill (serial_of (known_state o v).content) bare_head e.before.may.table_in)
 
   says : StandsAs k.texts last (0 ∷ 0 ∷ ws) (use_with class (length_of left)) left
   says = e.filled.says last last_head
@@ -274,20 +316,20 @@ module _ (k : Shape) (o : ℕ) (old : Option Table) (table : Table) (called : Ca
 
   -- the pass has taken no place for a box that no write has stored
   untaken : (n : ℕ) → place_use n d.log ≢ use_taken
-  untaken n x = e.may.boxes.stored n (ap (λ (z : View). place_use n z.log) (sym both_rooted) ∙ e.made.places n x)
+  untaken n taken = e.before.may.boxes.stored n (ap (λ (z : View). place_use n z.log) (sym both_rooted) ∙ e.stays.places n (e.made.places n taken))
 
   pub swapping_commits : MayCommit d called reply.Done
   swapping_commits =
       let l = e.replaces in
       let here : o ≡ changes called = sym l.changed in
-      let owed : owes d.log ≡ suc class = e.drops.work.owes ∙ (ap (λ (z : View). owes z.log) both_rooted ∙ e.may.owed) in
-      let odd : is_writing o d.log ≡ true = e.drops.work.pass.writes o ∙ (ap (λ (z : View). is_writing o z.log) both_rooted ∙ hit o true (is_writing o v.log)) in
+      let owed : owes d.log ≡ suc class = both.work.owes ∙ (ap (λ (z : View). owes z.log) both_rooted ∙ e.before.may.owed) in
+      let odd : is_writing o d.log ≡ true = both.work.pass.writes o ∙ (ap (λ (z : View). is_writing o z.log) both_rooted ∙ hit o true (is_writing o v.log)) in
       let none : root_in (held_unboxed (changes called) d) ≡ 0 = subst (λ (n : ℕ). root_in (held_unboxed n d) ≡ 0) here root_then in
       record {
         write = l.write;
-        container = subst (λ (n : ℕ). n < container_count d.shape) here (subst (λ (z : Shape). o < container_count z) (sym (shape_then ∙ e.shape)) e.may.keyed.container);
+        container = subst (λ (n : ℕ). n < container_count d.shape) here (subst (λ (z : Shape). o < container_count z) (sym (shape_then ∙ e.before.shape)) e.before.may.keyed.container);
         odd = subst (λ (n : ℕ). is_writing n d.log ≡ true) here odd;
-        left = subst (λ (n : ℕ). 0 < n) (sym (e.drops.work.left ∙ ap (λ (z : View). z.left) both_rooted)) e.may.left;
+        left = subst (λ (n : ℕ). 0 < n) (sym (both.work.left ∙ ap (λ (z : View). z.left) both_rooted)) e.before.may.left;
         words = l.words;
         locks = λ p x. locks_then p ∙ l.locks p x;
         reply_is = λ stored has. plain_replied called reply.Done _ l.write (l.replied stored (has_before stored has));
@@ -310,26 +352,17 @@ module _ (k : Shape) (o : ℕ) (old : Option Table) (table : Table) (called : Ca
     held_c : held_unboxed o c ≡ record { block = b; table = [] }
     held_c = ap (λ (z : View). held_unboxed o z) made ∙ held_then
 
-    hand_then : in_hand t c ≡ ws
-    hand_then =
-        ap (λ (z : View). in_hand t z) made
-        ∙ (hand_same r d t e.drops.work.pass.shape e.drops.words
-        ∙ (ap (λ (z : View). in_hand t z) both_rooted
-        ∙ table_same v.shape t (slice_set (mem v.shape v.log) (at v.shape (block o 0)) 0) (mem v.shape v.log)
-        (hand_stays v.shape o t 0 (mem v.shape v.log) (subst (λ (z : Shape). o < container_count z) (sym e.shape) e.may.keyed.container) (subst (λ (z : Shape). IsTableName z t) (sym e.shape) (named k table e.may.table_in)))))
+    hand_then : in_hand t c ≡ raw
+    hand_then = ap (λ (z : View). in_hand t z) made ∙ (hand_same r d t both.work.pass.shape both.words ∙ hand_bare)
 
     fresh_then : stage t c.log ≡ 1
-    fresh_then =
-        ap (λ (z : View). stage t z.log) made
-        ∙ (e.drops.work.hands t
-        ∙ (ap (λ (z : View). stage t z.log) both_rooted
-        ∙ (miss 0 (suc t) 0 _ (λ x. absurd (omega (arith, x))) ∙ (miss (root_in (held_unboxed o v)) (suc t) 3 (stage t v.log) e.other ∙ e.may.fresh))))
+    fresh_then = ap (λ (z : View). stage t z.log) made ∙ (both.work.hands t ∙ fresh_emptied k o old table f v s r e.before)
 
     odd_then : is_writing o c.log ≡ true
-    odd_then = ap (λ (z : View). is_writing o z.log) made ∙ (e.drops.work.pass.writes o ∙ (ap (λ (z : View). is_writing o z.log) both_rooted ∙ hit o true (is_writing o v.log)))
+    odd_then = ap (λ (z : View). is_writing o z.log) made ∙ (both.work.pass.writes o ∙ (ap (λ (z : View). is_writing o z.log) both_rooted ∙ hit o true (is_writing o v.log)))
 
     shape_c : c.shape ≡ k
-    shape_c = ap (λ (z : View). z.shape) made ∙ (shape_then ∙ e.shape)
+    shape_c = ap (λ (z : View). z.shape) made ∙ (shape_then ∙ e.before.shape)
 
     the_one : (q : Table) → Some table ≡ Some q → table ≡ q
     the_one q is = ap (λ (z : Option Table). unwrap_or z table) is
@@ -337,53 +370,75 @@ module _ (k : Shape) (o : ℕ) (old : Option Table) (table : Table) (called : Ca
     kind_c : kind_of left ≡ kind_in c.shape.starts o
     kind_c = e.kind_is ∙ sym (ap (λ (z : Shape). kind_in z.starts o) shape_c)
 
-    -- its values all stand in place
-    plain_c : ArePlain (kind_in c.shape.starts o) class (in_hand t c) (rows (kind_in c.shape.starts o) class)
-    plain_c =
-        subst (λ (z : Kind × List ℕ). ArePlain z.0 class z.1 (rows z.0 class)) (λ i. (kind_c i, sym hand_then i))
-        (λ p low four. e.filled.plain p low (ap (slice_index ws) (sym (keyed_value (kind_of left) keyed class p)) ∙ four))
+    locks_c : (q : ℕ) → has_lock q c.log ≡ has_lock q v.log
+    locks_c q = ap (λ (z : View). has_lock q z.log) made ∙ locks_then q
 
-    reads_c : hand_unboxed o t c ≡ in_hand t c
-    reads_c = plain_reads (λ n i. known_box_word c.shape n i c.log) (kind_in c.shape.starts o) t (in_hand t c) plain_c
+    -- the other containers are as they were
+    others_c : SameBut k o v c
+    others_c q low ne mine =
+        let bare = others_emptied k o old table f v s r e.before q low ne mine in
+        let low_r : q < container_count r.shape = subst (λ (z : Shape). q < container_count z) (sym (shape_bare ∙ e.before.shape)) low in
+        let mine_r : has_lock q r.log ≡ true = locks_emptied k o old table f v s r e.before q ∙ mine in (
+          ap (λ (z : View). held_words q z) made ∙ (boxed_held r d q both ∙ bare.0),
+          ap (λ (z : View). held_unboxed q z) made ∙ (both.unboxed q low_r mine_r ∙ bare.1),
+        )
 
-    names_c : (n : ℕ) → named_in_root n (kind_in c.shape.starts o) (suc t) (in_hand t c) ≡ 0
-    names_c n = plain_named n t (kind_in c.shape.starts o) (in_hand t c) plain_c
+    -- so the new table reads as it did
+    reads_c : hand_unboxed o t c ≡ ws
+    reads_c = others_read k o t v c e.before.shape shape_c hand_then others_c locks_c e.before.named
 
-    held_none : (n : ℕ) → references_held c.shape n c.log ≡ 0
-    held_none n = ap (λ (z : Shape). references_held z n c.log) shape_c ∙ (ap (λ (z : View). references_held k n z.log) made ∙ none_held n)
+    others_names : NamesOthers k o t c
+    others_names = others_on k o t v c hand_then others_c locks_c e.before.named
 
-    sound_here : SoundAs (kind_in c.shape.starts o) c.shape.texts class (in_hand t c) (known_state o c).content
+    held_c_all : (n : ℕ) → references_held c.shape n c.log ≡ named_in_root n (kind_in c.shape.starts o) (suc t) (in_hand t c)
+    held_c_all n =
+        ap (λ (z : Shape). references_held z n c.log) shape_c
+        ∙ (ap (λ (z : View). references_held k n z.log) made
+        ∙ (all_held n ∙ (λ i. named_in_root n (kind_in (sym shape_c i).starts o) (suc t) (sym hand_then i))))
+
+    -- the value in each box that it names is known
+    known_c : ∥ IsReachable c ∥₁ → (n : ℕ) → named_in_root n (kind_in c.shape.starts o) (suc t) (in_hand t c) ≢ 0 → (knows_box_word c.shape n 1 c.log ≡ true) × (knows_box_word c.shape n 2 c.log ≡ true)
+    known_c possible n some_ =
+        let row = named_some n (kind_in k.starts o) class (in_hand t c) (rows (kind_in k.starts o) class) (λ z. some_ (ap (λ (y : Shape). named_in_root n (kind_in y.starts o) (suc t) (in_hand t c)) shape_c ∙ z)) in
+        let by = others_names row.0 row.1 row.2 in
+        is_known k by.0 n c shape_c (subst (λ (x : ℕ). IsNamedBy k by.0 x c) row.3 by.2) possible
+
+    sound_here : SoundAs (kind_in c.shape.starts o) c.shape.texts class (hand_unboxed o t c) (known_state o c).content
     sound_here =
-        subst (λ (z : Kind × List ℕ × List ℕ × Content). SoundAs z.0 z.1 class z.2 z.3) (λ i. (kind_c i, (sym shape_c i).texts, sym hand_then i, sym content_then i))
+        subst (λ (z : Kind × List ℕ × List ℕ × Content). SoundAs z.0 z.1 class z.2 z.3) (λ i. (kind_c i, (sym shape_c i).texts, sym reads_c i, sym content_then i))
         (sound_in e.first_pair e.first_element k.texts last ws class (length_of left) left keyed is_class says)
 
-    zero_here : (p : ℕ) → p < rows (kind_in c.shape.starts o) class → slice_index (in_hand t c) (version_at (kind_in c.shape.starts o) class p) ≡ 0
+    zero_here : (p : ℕ) → p < rows (kind_in c.shape.starts o) class → slice_index (hand_unboxed o t c) (version_at (kind_in c.shape.starts o) class p) ≡ 0
     zero_here =
-        subst (λ (z : Kind × List ℕ). (p : ℕ) → p < rows z.0 class → slice_index z.1 (version_at z.0 class p) ≡ 0) (λ i. (kind_c i, sym hand_then i))
+        subst (λ (z : Kind × List ℕ). (p : ℕ) → p < rows z.0 class → slice_index z.1 (version_at z.0 class p) ≡ 0) (λ i. (kind_c i, sym reads_c i))
         (λ p low. ap (slice_index ws) (keyed_version (kind_of left) keyed class p) ∙ e.filled.versions p low)
 
     pub root_c : root_in (held_unboxed o c) ≡ 0
     root_c = ap root_in held_c ∙ bare_head.root
 
-    pub may_put_table : MayPutRoot c o (Some table)
-    may_put_table = record {
+    pub may_put_table : ∥ IsReachable c ∥₁ → MayPutRoot c o (Some table)
+    may_put_table possible = record {
       odd = odd_then;
       fresh = λ q is. subst (λ (z : Table). stage (table_id z) c.log ≡ 1) (the_one q is) fresh_then;
       sound = λ q is.
           subst (λ (z : Table). SoundAs (kind_in c.shape.starts o) c.shape.texts (class_of (table_id z)) (hand_unboxed o (table_id z) c) (known_state o c).content) (the_one q is)
-          (subst (λ (l : List ℕ). SoundAs (kind_in c.shape.starts o) c.shape.texts class l (known_state o c).content) (sym reads_c) sound_here);
+          sound_here;
       young = λ q p is row.
-          let here : (n : ℕ) → n < rows (kind_in c.shape.starts o) class → slice_index (hand_unboxed o t c) (version_at (kind_in c.shape.starts o) class n) ≡ 0 = λ n low. ap (λ (l : List ℕ). slice_index l (version_at (kind_in c.shape.starts o) class n)) reads_c ∙ zero_here n low in
+          let here : (n : ℕ) → n < rows (kind_in c.shape.starts o) class → slice_index (hand_unboxed o t c) (version_at (kind_in c.shape.starts o) class n) ≡ 0 = zero_here in
           let zero = subst (λ (z : Table). (n : ℕ) → n < rows (kind_in c.shape.starts o) (class_of (table_id z)) → slice_index (hand_unboxed o (table_id z) c) (version_at (kind_in c.shape.starts o) (class_of (table_id z)) n) ≡ 0) (the_one q is) here p row in
           (omega (arith, zero), (λ late. zero));
       shut = λ q names. let none = root_c in absurd (omega (arith, none, names));
       spare = λ some_one. absurd (some_one root_c);
       early = λ is. absurd (true≢false (ap is_some is));
       references = record {
-        few = λ n. let none = held_none n in omega (arith, none);
-        enough = λ n. let none = names_c n in omega (arith, none);
-        known = λ n none some_one. absurd (some_one (names_c n));
-        stored = λ n taken. names_c n;
+        few = λ n.
+            let all = held_c_all n in
+            let low = sum_few n (kind_in c.shape.starts o) class (in_hand t c) (rows (kind_in c.shape.starts o) class) in
+            let most = rows_few (kind_in c.shape.starts o) class is_class in
+            omega (arith, all, low, most);
+        enough = λ n. let all = held_c_all n in omega (arith, all);
+        known = λ n none some_one. known_c possible n some_one;
+        stored = λ n taken. absurd (none_taken (place_use n d.log) (ap (λ (z : View). place_use n z.log) (sym made) ∙ taken));
       };
     }
 
@@ -391,10 +446,10 @@ module _ (k : Shape) (o : ℕ) (old : Option Table) (table : Table) (called : Ca
     odd_rooted z is = ap (λ (y : View). is_writing o y.log) is ∙ odd_then
 
     -- after the root and the counts
-    module _ (z u : View) (rooted : z ≡ view_after (PutRoot o (suc t) (root_in (held_words o c))) c) (root_held : held_unboxed o z ≡ with_unboxed_root (held_unboxed o c) o (Some table) c) (puts : OnlyPut o z u) (count next : ℕ) (count_is : count ≡ length_of left) (next_is : next ≡ serial_of left) (words : held_unboxed o u ≡ record { block = counted (held_unboxed o z).block count count next; table = (held_unboxed o z).table }) where
+    module _ (z u : View) (rooted : z ≡ view_after (PutRoot o (suc t) (root_in (held_words o c))) c) (root_held : held_unboxed o z ≡ with_unboxed_root (held_unboxed o c) o (Some table) c) (raw_held : held_words o z ≡ with_root (held_words o c) (Some table) c) (puts : OnlyPut o z u) (count next : ℕ) (count_is : count ≡ length_of left) (next_is : next ≡ serial_of left) (words : held_unboxed o u ≡ record { block = counted (held_unboxed o z).block count count next; table = (held_unboxed o z).table }) (raw_words : (held_words o u).table ≡ (held_words o z).table) where
       held_u : held_unboxed o u ≡ record { block = last; table = ws }
       held_u =
-          let at_z : held_unboxed o z ≡ record { block = slice_set b 0 (suc t); table = ws } = root_held ∙ (λ i. record { block = slice_set (held_c i).block 0 (suc t); table = (reads_c ∙ hand_then) i }) in
+          let at_z : held_unboxed o z ≡ record { block = slice_set b 0 (suc t); table = ws } = root_held ∙ (λ i. record { block = slice_set (held_c i).block 0 (suc t); table = reads_c i }) in
           words ∙ (λ i. record { block = counted (at_z i).block (count_is i) (count_is i) (next_is i); table = (at_z i).table })
 
       pub root_u : root_in (held_unboxed o u) ≡ suc t
@@ -409,6 +464,10 @@ module _ (k : Shape) (o : ℕ) (old : Option Table) (table : Table) (called : Ca
               get_or-set_other b2 3 0 (serial_of left) 0 (λ x. absurd (omega (arith, x)))
               ∙ (get_or-set_other b1 2 0 (length_of left) 0 (λ x. absurd (omega (arith, x)))
               ∙ (get_or-set_other b0 1 0 (length_of left) 0 (λ x. absurd (omega (arith, x))) ∙ get_or-set_same b 0 (suc t) 0 (omega (arith, size_is))))
+
+      -- the words as they stand
+      pub raw_u : (held_words o u).table ≡ raw
+      raw_u = raw_words ∙ (ap (λ (x : ContainerWords). x.table) raw_held ∙ hand_then)
 
       known_u : known_state o u ≡ record { content = left; table = replaced_table (Some class) (length_of left) }
       known_u = work_knows z u o puts.work ∙ (ap (λ (y : View). known_state o y) rooted ∙ kept_then)
@@ -441,17 +500,18 @@ module _ (k : Shape) (o : ℕ) (old : Option Table) (table : Table) (called : Ca
             subst
             (λ (n : ℕ). s ≡ view_after (StartWrite n f) v → r ≡ view_after (PutRoot n 0 (root_in (held_words n v))) (view_after (StartWrite n f) v) → z ≡ view_after (PutRoot n (suc t) 0) c → w ≡ view_after (StopWrite n g) u → is_writing n v.log ≡ false → root_in (held_words n v) ≢ suc t → MovesReferences n s r → OnlyWritten n r d → MovesReferences n c z → OnlyPut n z u → root_in (held_words n u) ≡ suc t → Represents u.shape.texts (held_unboxed n u) (known_state n u) → Wrote called reply.Done number v w)
             e.replaces.changed
-            (λ s_is r_is z_is w_is quiet new moves_at drops_at moved_at puts_at root stands. swapped_write called reply.Done number f t g snap v d u s r c z w s_is r_is made z_is w_is quiet new seen e.may.left keeps moves_at drops_at committed kept moved_at puts_at root stands)
-            e.started both_rooted (rooted ∙ ap (λ (x : ℕ). view_after (PutRoot o (suc t) x) c) root_c) stopped e.may.keyed.even e.other e.moves written moved puts root_u
+            (λ s_is r_is z_is w_is quiet new moves_at drops_at moved_at puts_at root stands. swapped_write called reply.Done number f t g snap v d u s r c z w s_is r_is made z_is w_is quiet new seen e.before.may.left keeps moves_at drops_at committed kept moved_at puts_at root stands)
+            e.before.started both_rooted (rooted ∙ ap (λ (x : ℕ). view_after (PutRoot o (suc t) x) c) root_c) stopped e.before.may.keyed.even e.before.other e.before.moves written moved puts root_u
             (subst (λ (y : Shape). Represents y.texts (held_unboxed o u) (known_state o u)) (sym shape_u) stands_u)
 
         -- the pass holds no references, as before
         pub swapping_references : SameReferences v w
         swapping_references n =
-            let none_c = held_none n in
+            let all = held_c_all n in
             let bare : named_in_words n (kind_in c.shape.starts o) (held_words o c) ≡ 0 = none_named n (kind_in c.shape.starts o) (held_words o c) root_c in
+            let names : named_in_words n (kind_in u.shape.starts o) (held_words o u) ≡ named_in_root n (kind_in c.shape.starts o) (suc t) (in_hand t c) = (λ i. named_in_root n (kind_in ((shape_u ∙ sym shape_c) i).starts o) (root_u i) ((raw_u ∙ sym hand_then) i)) in
             let one = moved n in
             let two = puts.moves n in
-            let none_u : references_held u.shape n u.log ≡ 0 = omega (arith, none_c, bare, one, two) in
-            let before : references_held v.shape n v.log ≡ 0 = ap (λ (y : Shape). references_held y n v.log) e.shape ∙ e.may.boxes.none n in
+            let none_u : references_held u.shape n u.log ≡ 0 = omega (arith, all, bare, names, one, two) in
+            let before : references_held v.shape n v.log ≡ 0 = ap (λ (y : Shape). references_held y n v.log) e.before.shape ∙ e.before.may.boxes.none n in
             ap (λ (y : View). references_held y.shape n y.log) stopped ∙ (none_u ∙ sym before)

@@ -7,6 +7,8 @@
 
 mod copying;
 mod numbering;
+mod raising;
+mod sharing;
 mod swapping;
 
 pub use crate::copying::copy_into;

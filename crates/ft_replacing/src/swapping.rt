@@ -1,12 +1,12 @@
 //! The write of a call that puts another table in the place of the one that a dict or a set has. The references of
-//! boxes that the values of that one had are dropped.
+//! boxes that the values of that one had are dropped, and the counts of those raised that the values of the new one name.
 ghost use Rattle.std.specs.Prelude.{◌≡◌, ◌≢◌, suc, ◌<◌, true, Option, Some};
 ghost use Rattle.ft_model.specs.declared.content.Content.{Content};
 ghost use Rattle.ft_model.specs.declared.reply.Reply.TheVariants as reply;
 ghost use Rattle.ft_model.specs.Worlds.{kind_of, length_of, serial_of};
 ghost use Rattle.ft_trace.specs.Acts.{is_writing};
 ghost use Rattle.ft_trace.specs.Addresses.{container_count, class_of};
-ghost use Rattle.ft_trace.specs.Holds.{held_unboxed, in_hand};
+ghost use Rattle.ft_trace.specs.Holds.{hand_unboxed, held_unboxed, held_words, in_hand};
 ghost use Rattle.ft_trace.specs.Pictures.{root_in};
 ghost use Rattle.ft_trace.specs.ContainerStates.{kind_in};
 ghost use Rattle.ft_bank.specs.Passes.{shape_of, view, IsPassOf};
@@ -19,7 +19,9 @@ ghost use Rattle.ft_new_keys.specs.Fresh.{IsFilledWith};
 ghost use Rattle.ft_new_keys.specs.KeyGrowth.{MayGrowKeyed};
 ghost use Rattle.ft_new_keys.specs.Placing.{counted};
 ghost use Rattle.ft_replacing.specs.Replacing.{Replaces};
+ghost use Rattle.ft_replacing.specs.Sharing.{NamesOthers};
 
+use crate::raising::{raise_values, value_places};
 use ft_bank::{Bank, Pass, Table};
 use ft_keys::Way;
 use ft_layout::{used_entries_follow_a_dict, used_entries_follow_a_set, words_are_of_one_content};
@@ -38,13 +40,16 @@ fn put_counts(bank: &Bank, pass: &mut Pass, o: u32, count: u64, next: u64)
       block = counted (held_unboxed o (view pass.old)).block count count next;
       table = (held_unboxed o (view pass.old)).table;
     } }
+    ensures raw { (held_words o (view pass.new)).table ≡ (held_words o (view pass.old)).table }
 {
     bank.put_block(pass, o, COUNT, count);
     bank.put_block(pass, o, FILL, count);
     bank.put_block(pass, o, NEXT, next);
 }
 
-/// Gives a dict or a set this table, which has what it gets, as the write of the call. Answers the number of the write.
+/// Gives a dict or a set this table, which has what it gets, as the write of the call. Where a value of the table stands
+/// in a box, another container names the box, whose lock the pass has: the new words get a reference of their own.
+/// Answers the number of the write.
 pub fn swap_table(
     bank: &Bank,
     pass: &mut Pass,
@@ -63,19 +68,23 @@ pub fn swap_table(
     requires gets { (left : Content) × (kind_of left ≡ kind_in (shape_of bank.now).starts o)
         × (count ≡ length_of left) × (next ≡ serial_of left)
         × IsFilledWith (shape_of bank.now).texts (class_of (table_id table)) left
-        (in_hand (table_id table) (view pass.old))
+        (hand_unboxed o (table_id table) (view pass.old))
         × Replaces o called.now left (Some (class_of (table_id table))) (view pass.old) }
+    requires named { NamesOthers (shape_of bank.now) o (table_id table) (view pass.old) }
     ensures pass { IsPassOf bank.now pass.new }
     ensures stack { stack_of pass.new ≡ stack_of pass.old }
     ensures wrote { Wrote called.now reply.Done result (view pass.old) (view pass.new) }
     ensures references { SameReferences (view pass.old) (view pass.new) }
     ensures root { root_in (held_unboxed o (view pass.new)) ≡ suc (table_id table) }
+    ensures raw { (held_words o (view pass.new)).table ≡ in_hand (table_id table) (view pass.old) }
 {
     words_are_of_one_content();
     used_entries_follow_a_dict();
     used_entries_follow_a_set();
     bank.start_write(pass, o);
     bank.put_root(pass, o, None);
+    let places = value_places(way, table.class);
+    raise_values(bank, pass, o, table, places);
     drop_old(bank, pass, o, way, old);
     let number = bank.commit(pass, called, &Reply::Done);
     bank.put_root(pass, o, Some(table));

@@ -121,7 +121,7 @@ box_load v c i f possible =
           λ d. record { block = raw.block; table = same d };
       boxes = record {
         references = λ b. refl;
-        made = record { state = λ b. refl; local = λ b. refl; taken = λ b. refl; places = λ b. refl; uses = λ b. refl };
+        made = record { state = λ b. refl; local = λ b. refl; taken = λ b. refl; places = λ b. refl; uses = λ b. refl; raised = λ b. refl };
         knows = λ b n is which su. (
           sure_after k b n (ReadBox c i f) v.log (sure_keeps k b n v.log su) (sure_stays b n (ReadBox c i f) (knows_box_word k b n v.log) su),
           ∥∥₁_elim possible (ℕ_set (known_box_word k b n (ReadBox c i f ∷ v.log)) (known_box_word k b n v.log)) (λ x. found_known k c i f v.log x b n is which su),

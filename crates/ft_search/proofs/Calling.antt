@@ -28,7 +28,7 @@ use Rattle.ft_bank.specs.Passes.{view, IsPassOf}
 use Rattle.ft_bank.specs.PassSections.{stack_of}
 use Rattle.ft_bank.specs.Whole.{OnlyLoaded, Wrote, write_entry, hand_after, debt_after}
 use Rattle.ft_bank.specs.WriteSteps.{MayHave}
-use Rattle.ft_bank.specs.SameBoxes.{SameReferences, named_in_words}
+use Rattle.ft_bank.specs.SameBoxes.{SameReferences, named_in_words, times_raised}
 use Rattle.ft_bank.proofs.BoxedSteps.{boxes_same}
 use Rattle.ft_bank.proofs.DoneBoxes.{done_stays, settled_then, stays_settled_same}
 use Rattle.ft_bank.proofs.LastLoads.{last_older}
@@ -89,7 +89,7 @@ module _ (v u : View) (l : OnlyLoaded v u) where
           owes = x.owes;
           tables = x.tables ∙ l.work.tables;
           made = settled_then v u w (stays_settled_same v u l.boxes.made) x.made;
-          loses = λ b. subst (λ (m : ℕ). references_held w.shape b w.log + named_in_words b (kind_in w.shape.starts o) (held_words o w) ≤ m) (λ d. l.boxes.references b d + named_in_words b (kind_in (s d).starts o) (h d)) (x.loses b);
+          loses = λ b. subst (λ (m : ℕ × ℕ). references_held w.shape b w.log + named_in_words b (kind_in w.shape.starts o) (held_words o w) + m.0 ≤ m.1 + times_raised b w.log) (λ d. (l.boxes.made.raised b d, l.boxes.references b d + named_in_words b (kind_in (s d).starts o) (h d))) (x.loses b);
           others = λ p low ne mine quiet.
               let e = x.others p (subst (λ (k : Shape). p < container_count k) (sym s) low) ne (l.work.pass.locks p ∙ mine) (l.work.pass.writes p ∙ quiet) in
               (e.0 ∙ loaded_held v u p l, e.1 ∙ work_knows v u p l.work, e.2 ∙ l.unboxed p low mine);

@@ -27,7 +27,7 @@ use Rattle.ft_bank.specs.WriteSteps.{with_table}
 use Rattle.ft_bank.proofs.DoneBoxes.{stays_settled_same}
 use Rattle.ft_bank.proofs.KnownAfterWrites.{loaded_held, loaded_put, put_then, put_written, boxed_written, written_then}
 use Rattle.ft_bank.proofs.NamedBoxes.{named_is_box, named_is_known}
-use Rattle.ft_search.specs.Boxed.{IsKnownBox, WritesTable}
+use Rattle.ft_search.specs.Boxed.{IsKnownBox, StandsBut, WritesTable}
 use Rattle.ft_search.proofs.Puts.{few_same, table_class}
 use Rattle.ft_search.proofs.Unboxing.{reads_plain, word_reads, kind_again}
 
@@ -224,6 +224,12 @@ module _ (k : Shape) (o : ℕ) (table : Table) (word kind payload : ℕ) (v r p 
       ap (λ (x : ContainerWords). slice_index x.table (word + 1)) held ∙ kept_payload (held_words o r) word payload long_here,
     )
 
+    pub same_stands : StandsBut o word v p
+    same_stands at first second =
+        ap (λ (x : ContainerWords). slice_index x.table at) held
+        ∙ (get_or-set_other T (word + 1) at payload 0 (λ e. second (omega (arith, e)))
+        ∙ ap (λ (x : ContainerWords). slice_index x.table at) (loaded_held v r o l))
+
     pub same_refs : SameReferences r p → (b : ℕ) → references_held k b p.log + names_box b kind payload ≡ references_held k b v.log
     same_refs same b =
         let none = plain_names b kind payload ne in
@@ -246,6 +252,13 @@ module _ (k : Shape) (o : ℕ) (table : Table) (word kind payload : ℕ) (v r p 
       ap (λ (x : ContainerWords). slice_index x.table word) held ∙ put_kind (held_words o r) word kind payload long_here,
       ap (λ (x : ContainerWords). slice_index x.table (word + 1)) held ∙ put_payload (held_words o r) word kind payload long_here,
     )
+
+    pub both_stands : StandsBut o word v p
+    both_stands at first second =
+        ap (λ (x : ContainerWords). slice_index x.table at) held
+        ∙ (get_or-set_other (set T word kind) (word + 1) at payload 0 (λ e. second (omega (arith, e)))
+        ∙ (get_or-set_other T word at kind 0 (λ e. first (omega (arith, e)))
+        ∙ ap (λ (x : ContainerWords). slice_index x.table at) (loaded_held v r o l)))
 
     pub both_words : held_unboxed o p ≡ read_so (held_unboxed o v)
     both_words = put ∙ (λ d. with_table (with_table (still_unboxed k o table v r shape writes l d) word (reads.0 d)) (word + 1) (reads.1 d))
@@ -317,6 +330,9 @@ module _ (k : Shape) (o : ℕ) (table : Table) (word kind payload : ℕ) (v r p 
         drop_raw =
             let same = boxed_held p w o boxed in
             (ap (λ (x : ContainerWords). slice_index x.table word) same ∙ both_raw.0, ap (λ (x : ContainerWords). slice_index x.table (word + 1)) same ∙ both_raw.1)
+
+        pub drop_stands : StandsBut o word v w
+        drop_stands at first second = ap (λ (x : ContainerWords). slice_index x.table at) (boxed_held p w o boxed) ∙ both_stands at first second
 
         pub drop_words : held_unboxed o w ≡ read_so (held_unboxed o v)
         drop_words =

@@ -13,7 +13,7 @@ use Rattle.ft_trace.specs.LoggedReads.{Among, Between}
 use Rattle.ft_trace.specs.LoggedLookUps.{Bare, Inner, IsNew}
 use Rattle.std.proofs.Math.Logic.{∥∥₁_map}
 use Rattle.ft_trace.specs.Traces.{IsReachable}
-use Rattle.ft_trace.proofs.Anew.{unread, unread_inner, unread_find, unread_less}
+use Rattle.ft_trace.proofs.Anew.{unread, unread_stay, unread_find, unread_less}
 use Rattle.ft_bank.specs.declared.pass.Pass.{Pass}
 use Rattle.ft_bank.specs.LastLoads.{IsLastBetween, IsLastLoad}
 use Rattle.ft_bank.specs.Passes.{view}
@@ -29,7 +29,7 @@ use Rattle.ft_search.specs.declared.rounds.Round.TheVariants.{Ended, Moved}
 use Rattle.ft_search.specs.KeyLooks.{AreLooks, StopsAtEntry, StopsAtContainer, ShowsLooked, EndsLook}
 use Rattle.ft_search.specs.Rounds.{EndsTable, EndsRound}
 use Rattle.ft_search.proofs.BoxLoads.{IsLogged, box_load, logged_before}
-use Rattle.ft_search.proofs.Running.{did_trans, did_log, noted_log, window_of}
+use Rattle.ft_search.proofs.Running.{did_trans, did_log, inner_roots, noted_log, window_of}
 
 pub looks_inner : (l : List Act) → Inner l → AreLooks l
 looks_inner [] q = tt
@@ -268,10 +268,10 @@ to_table a b w low = omega (arith, low)
 
 falls_by : (n o root r : ℕ) (part l : List Act) → Inner part → r ≢ root → ((u : ℕ) → r ≡ suc u → (u < n) × (reads u (part ++ l) ≡ false)) → 2 * unread n (ReadRoot o r ∷ (part ++ l)) + weigh r < 2 * unread n l + weigh root
 falls_by n o root zero part l inner ne new =
-    let same = unread_inner n part l inner in
+    let same = unread_stay n part l (inner_roots part inner) in
     to_none (unread n (ReadRoot o 0 ∷ (part ++ l))) (unread n l) (weigh root) (subst (λ (z : ℕ). unread n (ReadRoot o 0 ∷ (part ++ l)) ≤ z) same (unread_find n o 0 (part ++ l))) (weigh_one root (λ z. ne (sym z)))
 falls_by n o root (suc u) part l inner ne new =
-    let same = unread_inner n part l inner in
+    let same = unread_stay n part l (inner_roots part inner) in
     let h = new u refl in
     to_table (unread n (ReadRoot o (suc u) ∷ (part ++ l))) (unread n l) (weigh root) (subst (λ (z : ℕ). unread n (ReadRoot o (suc u) ∷ (part ++ l)) < z) same (unread_less n o u (part ++ l) h.0 h.1))
 

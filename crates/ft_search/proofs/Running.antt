@@ -7,7 +7,7 @@ use Rattle.ft_trace.specs.declared.View.{View}
 use Rattle.ft_trace.specs.Acts.{view_after, reads, announces}
 use Rattle.ft_trace.specs.Addresses.{class_of, slots}
 use Rattle.ft_trace.specs.Pictures.{entry_offset}
-use Rattle.ft_trace.specs.LoggedLookUps.{Online, LookUpWindow, Inner}
+use Rattle.ft_trace.specs.LoggedLookUps.{Online, LookUpWindow, Inner, ReadsNoRoot}
 use Rattle.ft_trace.proofs.Cases.{hit}
 use Rattle.ft_keys.specs.declared.words.Access.{Access}
 use Rattle.ft_keys.specs.declared.words.Access.TheVariants.{Index, Entry, PutIndex, PutEntry, OldEntry}
@@ -100,6 +100,14 @@ inner_online (ReadTable t i f ∷ l) q = inner_online l q
 inner_online (ReadCounter f ∷ l) q = inner_online l q
 inner_online (ReadBox c j f ∷ l) q = inner_online l q
 inner_online (act ∷ l) q = absurd q
+
+pub inner_roots : (l : List Act) → Inner l → ReadsNoRoot l
+inner_roots [] q = tt
+inner_roots (Version o f ∷ l) q = inner_roots l q
+inner_roots (ReadTable t i f ∷ l) q = inner_roots l q
+inner_roots (ReadCounter f ∷ l) q = inner_roots l q
+inner_roots (ReadBox c j f ∷ l) q = inner_roots l q
+inner_roots (act ∷ l) q = absurd q
 
 pub inner_announces : (l rest : List Act) → Inner l → announces (l ++ rest) ≡ announces rest
 inner_announces [] rest q = refl

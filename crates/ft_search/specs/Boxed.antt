@@ -1,5 +1,5 @@
 -- Values that stand in boxes: what a pass knows of them, and what it does with a reference that no word has any longer.
-use Rattle.std.specs.Prelude.{◌≡◌, ℕ, suc, ◌<◌, Bool, true, false, List, [], ◌∷◌, slice_index}
+use Rattle.std.specs.Prelude.{◌≡◌, ◌≢◌, ℕ, suc, ◌+◌, ◌<◌, Bool, true, false, List, [], ◌∷◌, slice_index}
 use Rattle.ft_layout.specs.Starts.{kind_word, payload_word}
 use Rattle.ft_trace.specs.declared.Act.{Act}
 use Rattle.ft_trace.specs.declared.Act.TheVariants.{ReadBox}
@@ -43,6 +43,12 @@ pub record WritesTable (k : Shape) (o : ℕ) (table : Table) (v : View) : Type 0
   pub root : root_in (held_words o v) ≡ suc (table_id table)
   pub settled : IsSettled v.log
   pub few : HoldsFew v
+
+-- the words of the table of the container o stand as they stood, but for this one and the next
+abbrev pub StandsBut : ℕ → ℕ → View → View → Type 0
+StandsBut o word v w =
+    (at : ℕ) → at ≢ word → at ≢ word + 1
+    → slice_index (held_words o w).table at ≡ slice_index (held_words o v).table at
 
 -- the loads of the box that a value names, newest first, where it names one
 abbrev pub box_acts : Bool → ℕ → ℕ → ℕ → List Act

@@ -1,5 +1,5 @@
 -- What a pass needs that writes the entries of a dict or a set under its lock, and what its call leaves of it.
-use Rattle.std.specs.Prelude.{◌≡◌, ℕ, suc, ◌+◌, ◌-◌, ◌%◌, ◌<◌, true, false, List, ◌∷◌, slice_index, ◌==◌, ◌&&◌, Bool}
+use Rattle.std.specs.Prelude.{◌≡◌, ◌≢◌, ℕ, suc, ◌+◌, ◌-◌, ◌%◌, ◌<◌, true, false, List, ◌∷◌, slice_index, ◌==◌, ◌&&◌, Bool}
 use Rattle.ft_model.specs.declared.call.Call.{Call}
 use Rattle.ft_model.specs.declared.content.Content.{Content}
 use Rattle.ft_model.specs.declared.content.Content.TheVariants as content
@@ -19,7 +19,7 @@ use Rattle.ft_trace.specs.Boxes.{IsDoneWithBoxes, IsSettled}
 use Rattle.ft_trace.specs.Carefuls.{HasLiveKey}
 use Rattle.ft_trace.specs.DeleteWrites.{delete_puts}
 use Rattle.ft_trace.specs.FitCalls.{FitsCall}
-use Rattle.ft_trace.specs.Holds.{held_unboxed, known_state}
+use Rattle.ft_trace.specs.Holds.{held_words, held_unboxed, known_state}
 use Rattle.ft_trace.specs.Kinds.{rows, version_at, CarefulAs, IsKeyed}
 use Rattle.ft_trace.specs.OddVersions.{Shut}
 use Rattle.ft_trace.specs.BegunSections.{HasLocksOf}
@@ -115,6 +115,13 @@ without_key (content.Deque deque) key = content.Deque deque
 abbrev pub raised_at : ℕ → ℕ → ContainerWords → ContainerWords
 raised_at t place x =
     with_table x (entry_offset (slots (class_of t)) place 0) (entry_field (slots (class_of t)) x.table place 0 + 1)
+
+-- each entry of the table t of the container o, but the one at this place, has the words that it had, as they stand
+abbrev pub KeepsOtherEntries : ℕ → ℕ → ℕ → View → View → Type 0
+KeepsOtherEntries o t place v w =
+    (other word : ℕ) → other ≢ place → word < 8
+    → entry_field (slots (class_of t)) (held_words o w).table other word
+    ≡ entry_field (slots (class_of t)) (held_words o v).table other word
 
 -- A pass that has put the words of the container o may commit this call, with this reply, and then make the version of
 -- the entry at this place even: the call changes o, and leaves it with what the words say but for that version, the

@@ -1,26 +1,26 @@
-//! Values that stand in boxes: what their words read, a put over one, and the drop of a reference that no word has any
-//! longer.
+//! Values that stand in boxes: what their words read, a put over one, the drop of a reference that no word has any
+//! longer, and one more for a box that another container names.
 ghost use Rattle.std.specs.Prelude.{◌≡◌, ◌≢◌, ℕ, ◌+◌, ◌/◌, ◌^◌, ◌<◌, ◌==◌, List, cond, slice_index};
 ghost use Rattle.ft_trace.specs.declared.Act.{Act};
 ghost use Rattle.ft_trace.specs.Addresses.{class_of, maker_of, place_in, IsBoxName};
-ghost use Rattle.ft_trace.specs.Boxes.{names_box, references_held, IsSettled};
+ghost use Rattle.ft_trace.specs.Boxes.{names_box, references_held, IsSettled, KeepsBox};
 ghost use Rattle.ft_trace.specs.BoxWords.{box_kind};
 ghost use Rattle.ft_trace.specs.Holds.{held_words, held_unboxed};
 ghost use Rattle.ft_bank.specs.BoxSteps.{kind_read, payload_read, HasReferenceFor, IsOpenValue};
 ghost use Rattle.ft_bank.specs.Passes.{shape_of, view, IsPassOf};
 ghost use Rattle.ft_bank.specs.PassSections.{stack_of};
-ghost use Rattle.ft_bank.specs.SameBoxes.{HoldsFew, SameReferences, TakesNoPlace};
+ghost use Rattle.ft_bank.specs.SameBoxes.{GainsRaised, HoldsFew, SameReferences, TakesNoPlace};
 ghost use Rattle.ft_bank.specs.Series.{DidAll};
 ghost use Rattle.ft_bank.specs.TableNames.{table_id, IsPlaceOf};
 ghost use Rattle.ft_bank.specs.Whole.{OnlyBoxed, OnlyLoaded, OnlyPut, OnlyWritten};
 ghost use Rattle.ft_bank.specs.WriteSteps.{with_table};
 ghost use Rattle.ft_boxes.specs.References.{KeepsValues};
-ghost use Rattle.ft_search.specs.Boxed.{IsKnownBox, NamedAreKnown, SeesKnown, SeesValue, WritesTable, box_acts};
+ghost use Rattle.ft_search.specs.Boxed.{IsKnownBox, NamedAreKnown, SeesKnown, SeesValue, StandsBut, WritesTable, box_acts};
 ghost use Rattle.ft_search.specs.KeyLooks.{AreLooks};
 ghost use Rattle.ft_search.specs.SearchCosts.{index_reads};
 
 use ft_bank::{Bank, Pass, Table};
-use ft_boxes::taken;
+use ft_boxes::{keep, raise_kept, taken};
 use ft_layout::Ref;
 
 /// The kind of a value that stands in a box.
@@ -141,6 +141,27 @@ pub fn release(bank: &Bank, pass: &mut Pass, payload: u64)
     ft_boxes::release(bank, pass, held);
 }
 
+/// Raises the count of the box with this name, which a container names whose lock the pass has, or for which the pass
+/// holds a reference: it holds one more, which it is about to put into a word of a container.
+pub fn raise_named(bank: &Bank, pass: &mut Pass, payload: u64)
+    requires pass { IsPassOf bank.now pass.old }
+    requires name { IsBoxName (shape_of bank.now) payload }
+    requires kept { KeepsBox (shape_of bank.now) payload (view pass.old).log }
+    requires settled { IsSettled (view pass.old).log }
+    requires few { HoldsFew (view pass.old) }
+    ensures pass { IsPassOf bank.now pass.new }
+    ensures stack { stack_of pass.new ≡ stack_of pass.old }
+    ensures only { OnlyBoxed (view pass.old) (view pass.new) }
+    ensures settled { IsSettled (view pass.new).log }
+    ensures places { TakesNoPlace (view pass.old) (view pass.new) }
+    ensures gains { GainsRaised (view pass.old) (view pass.new) }
+    ensures references { (b : ℕ) → references_held (shape_of bank.now) b (view pass.new).log ≡
+        references_held (shape_of bank.now) b (view pass.old).log + cond (b == payload) 1 0 }
+{
+    let held = raise_kept(bank, pass, box_of(payload));
+    let _ = keep(bank, pass, held);
+}
+
 /// Puts a value over that of an entry or item whose version is odd, whose kind lies at this word of the table: the value
 /// itself, or what names the box in which it stands, for which the pass holds a reference and whose value it knows. That
 /// reference is the words' then. Where the old value names a box its reference is dropped. `start` is where the table's
@@ -167,6 +188,7 @@ pub fn put_over(
     ensures only { OnlyWritten o (view pass.old) (view pass.new) }
     ensures raw { (slice_index (held_words o (view pass.new)).table word ≡ kind)
         × (slice_index (held_words o (view pass.new)).table (word + 1) ≡ payload) }
+    ensures stands { StandsBut o word (view pass.old) (view pass.new) }
     ensures words { held_unboxed o (view pass.new) ≡
         with_table (with_table (held_unboxed o (view pass.old)) word (kind_read (view pass.old) kind payload))
         (word + 1) (payload_read (view pass.old) kind payload) }
@@ -245,6 +267,7 @@ pub fn put_unboxed(bank: &Bank, pass: &mut Pass, o: u32, table: Table, start: u6
     ensures writes { WritesTable (shape_of bank.now) o table (view pass.new) }
     ensures only { OnlyWritten o (view pass.old) (view pass.new) }
     ensures raw { slice_index (held_words o (view pass.new)).table word ≢ box_kind }
+    ensures stands { StandsBut o word (view pass.old) (view pass.new) }
     ensures words { held_unboxed o (view pass.new) ≡ held_unboxed o (view pass.old) }
     ensures references { SameReferences (view pass.old) (view pass.new) }
     ensures values { KeepsValues (view pass.old) (view pass.new) }

@@ -23,8 +23,8 @@ mod words;
 
 pub use crate::answering::{answer_made, written};
 pub use crate::boxed::{
-    SeenValue, exchange, named_boxes_are_known, put_over, put_unboxed, read_value, release,
-    see_value,
+    SeenValue, exchange, named_boxes_are_known, put_over, put_unboxed, raise_named, read_value,
+    release, see_value,
 };
 pub use crate::deleting::{delete_entry, put_deleted};
 pub use crate::entries::raise_version;

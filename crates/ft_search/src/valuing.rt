@@ -21,7 +21,7 @@ ghost use Rattle.ft_bank.specs.SameBoxes.{SameReferences};
 ghost use Rattle.ft_bank.specs.TableNames.{table_id};
 ghost use Rattle.ft_bank.specs.Whole.{OnlyWritten, Wrote};
 ghost use Rattle.ft_search.specs.HeldValues.{ChangesValue, StoresBox};
-ghost use Rattle.ft_search.specs.OneEntryWrites.{HasTable, IsLiveEntry, Leaves, MayBeginEntries, MayWriteEntries, WritesEntries, are_of_value, with_value_at};
+ghost use Rattle.ft_search.specs.OneEntryWrites.{HasTable, IsLiveEntry, KeepsOtherEntries, Leaves, MayBeginEntries, MayWriteEntries, WritesEntries, are_of_value, with_value_at};
 
 use crate::boxed::put_over;
 use crate::entries::{raise_at, word_at};
@@ -59,6 +59,7 @@ fn put_stored(bank: &Bank, pass: &mut Pass, o: u32, table: Table, place: u64, st
         ≡ stored_kind stored)
         × (entry_field (slots (class_of (table_id table))) (held_words o (view pass.new)).table place 5
         ≡ stored_payload stored) }
+    ensures others { KeepsOtherEntries o (table_id table) place (view pass.old) (view pass.new) }
     ensures words { (value : Value) →
         kind_read (view pass.old) (stored_kind stored) (stored_payload stored) ≡ stored_kind (Plain value) →
         payload_read (view pass.old) (stored_kind stored) (stored_payload stored) ≡ stored_payload (Plain value) →
@@ -99,6 +100,7 @@ pub fn put_value(
     ensures writes { WritesEntries (shape_of bank.now) o table (view pass.new) }
     ensures only { OnlyWritten o (view pass.old) (view pass.new) }
     ensures references { SameReferences (view pass.old) (view pass.new) }
+    ensures others { KeepsOtherEntries o (table_id table) place (view pass.old) (view pass.new) }
     ensures words { held_unboxed o (view pass.new) ≡ with_puts (held_unboxed o (view pass.old))
         (value_puts (slots (class_of (table_id table))) (held_unboxed o (view pass.old)).table place None value) }
 {

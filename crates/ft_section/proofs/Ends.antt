@@ -74,7 +74,7 @@ ended b p w outer top said n r split go =
       used = i.still.used;
       owes = i.still.owes;
       flight = i.still.flight;
-      boxes = done_as v (answered_view call.End said n v) (λ c. refl) (record { state = λ c. refl; local = λ c. refl; taken = λ c. refl; places = λ c. refl; uses = λ c. refl }) i.still.boxes;
+      boxes = done_as v (answered_view call.End said n v) (λ c. refl) (record { state = λ c. refl; local = λ c. refl; taken = λ c. refl; places = λ c. refl; uses = λ c. refl; raised = λ c. refl }) i.still.boxes;
       stands = i.still.stands;
     }) i.locks i.low go
     (λ o. let e = ap (noted_in o) split ∙ noted_push o outer top in omega (arith, e))

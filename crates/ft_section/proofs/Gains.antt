@@ -23,7 +23,7 @@ only_tried : (v : View) (o f : ℕ) (s : Snap) → has_lock o v.log ≡ false �
 only_tried v o f s free keeps =
     let w : View = view_after (Lock o f s) v in
     let grew : w.log ≡ (Lock o f s ∷ []) ++ v.log = refl in
-    let made : SameMade v w = record { state = λ b. refl; local = λ b. refl; taken = λ b. refl; places = λ b. refl; uses = λ b. refl } in
+    let made : SameMade v w = record { state = λ b. refl; local = λ b. refl; taken = λ b. refl; places = λ b. refl; uses = λ b. refl; raised = λ b. refl } in
     let knows : (p : ℕ) → p < container_count v.shape → has_lock p v.log ≡ true → has_lock p w.log ≡ true → KnowsSame p v w = λ p low had has. keeps p low (λ e. true≢false (sym had ∙ (ap (λ (z : ℕ). has_lock z v.log) e ∙ free))) had in
     search
 

@@ -111,7 +111,7 @@ entered b p objects n m low has noted order =
         used = i.still.used;
         owes = i.still.owes;
         flight = i.still.flight;
-        boxes = done_as v (answered_view (begin_of objects) reply.Entered n v) (λ c. refl) (record { state = λ c. refl; local = λ c. refl; taken = λ c. refl; places = λ c. refl; uses = λ c. refl }) i.still.boxes;
+        boxes = done_as v (answered_view (begin_of objects) reply.Entered n v) (λ c. refl) (record { state = λ c. refl; local = λ c. refl; taken = λ c. refl; places = λ c. refl; uses = λ c. refl; raised = λ c. refl }) i.still.boxes;
         stands = i.still.stands;
       };
       locks = λ o. let a = i.locks o in let e = noted_push o s.sections here in omega (arith, a, e);

@@ -66,7 +66,7 @@ only_same v =
 only_unlocked : (v : View) (o : ℕ) → OnlyLocked v (view_after (Unlock o) v)
 only_unlocked v o =
     let grew : (view_after (Unlock o) v).log ≡ (Unlock o ∷ []) ++ v.log = refl in
-    let made : SameMade v (view_after (Unlock o) v) = record { state = λ b. refl; local = λ b. refl; taken = λ b. refl; places = λ b. refl; uses = λ b. refl } in
+    let made : SameMade v (view_after (Unlock o) v) = record { state = λ b. refl; local = λ b. refl; taken = λ b. refl; places = λ b. refl; uses = λ b. refl; raised = λ b. refl } in
     search
 
 -- a section that has the lock of o isn't one that no section notes

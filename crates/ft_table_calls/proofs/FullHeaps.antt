@@ -1,5 +1,5 @@
 -- What the making of a box finds that finds no free place: the heap of the pass is full.
-use Rattle.std.proofs.Common.{◌≡◌, ◌≢◌, ℕ, zero, suc, ◌-◌, ◌/◌, ◌<◌, List, [], ◌∷◌, ◌++◌, refl, sym, ap, ◌∙◌, subst, arith}
+use Rattle.std.proofs.Common.{◌≡◌, ◌≢◌, ◌⊎◌, ⊎_elim, ℕ, zero, suc, ◌-◌, ◌/◌, ◌<◌, List, [], ◌∷◌, ◌++◌, refl, sym, ap, ◌∙◌, subst, arith}
 use mathlib.Core.Logic.{dite}
 use native.Mathlib.Decide.{ℕ_discrete}
 use Rattle.ft_trace.specs.declared.Act.{Act}
@@ -9,7 +9,7 @@ use Rattle.ft_trace.specs.declared.View.{View}
 use Rattle.ft_trace.specs.Boxes.{place_use, use_taken}
 use Rattle.ft_trace.specs.Causes.{FoundNoPlace, HeapIsFull}
 use Rattle.ft_bank.specs.SameBoxes.{SameBoxes}
-use Rattle.ft_boxes.specs.Making.{FoundHeapFull, full_loads}
+use Rattle.ft_boxes.specs.Making.{FoundHeapFull, FoundOneFull, full_loads}
 
 -- among the loads of so many words is that of each
 found_in : (q n i : ℕ) (rest : List Act) → i < n → FoundNoPlace q i (full_loads q n ++ rest)
@@ -21,11 +21,15 @@ found_in q (suc n) i rest low =
     let f = found_in q n i rest (omega (arith, low, ne)) in
     record { newer = ReadFreePlaces q n 0 ∷ f.newer; rest = f.rest; is = ap (λ (l : List Act). ReadFreePlaces q n 0 ∷ l) f.is; own = f.own; kept = f.kept })
 
+own_number : (v x : View) → (x ≡ v) ⊎ FoundOneFull v x → x.number ≡ v.number
+own_number v x before = ⊎_elim (λ (e : x ≡ v). ap (λ (z : View). z.number) e) (λ (f : FoundOneFull v x). ap (λ (z : View). z.number) f.1) before
+
 pub heap_full : (v w : View) → FoundHeapFull v w → SameBoxes v w → w.shape ≡ v.shape → w.number ≡ v.number → ((b : ℕ) → place_use b v.log ≢ use_taken) → HeapIsFull w.shape w.number w.log
 heap_full v w found same shape number untaken = record {
   words = λ i low.
       let within : i < v.shape.heap / 64 = subst (λ (k : Shape). i < k.heap / 64) shape low in
-      subst (λ (z : ℕ). FoundNoPlace (z - 1) i w.log) (sym number)
-      (subst (FoundNoPlace (v.number - 1) i) (sym found) (found_in (v.number - 1) (v.shape.heap / 64) i v.log within));
+      let x = found.0 in
+      subst (λ (z : ℕ). FoundNoPlace (z - 1) i w.log) (sym (number ∙ sym (own_number v x found.1)))
+      (subst (FoundNoPlace (x.number - 1) i) (sym found.2) (found_in (x.number - 1) (v.shape.heap / 64) i x.log within));
   untaken = λ b taken. untaken b (sym (same.made.uses b) ∙ taken);
 }

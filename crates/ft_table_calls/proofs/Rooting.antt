@@ -17,7 +17,7 @@ use Rattle.ft_trace.specs.Boxes.{references_held}
 use Rattle.ft_trace.specs.ContainerStates.{changes, kind_in, kinds_in}
 use Rattle.ft_trace.proofs.Cases.{hit, miss}
 use Rattle.ft_bank.specs.Whole.{SameWork, OnlyLoaded, OnlyWritten, EndsWrite, Wrote, hand_after, debt_after, write_entry}
-use Rattle.ft_bank.specs.SameBoxes.{MovesReferences, SameReferences, SameMade, named_in_words}
+use Rattle.ft_bank.specs.SameBoxes.{MovesReferences, SameReferences, SameMade, named_in_words, times_raised}
 use Rattle.ft_bank.specs.WriteSteps.{KeepsUnwritten}
 use Rattle.ft_bank.proofs.BoxedSteps.{made_same, made_then}
 use Rattle.ft_bank.proofs.DoneBoxes.{settled_then, stays_settled_same}
@@ -32,7 +32,7 @@ IsFill (PutFresh t i x) = Unit {0}
 IsFill act = ⊥
 
 fill_only : (a : Act) (v : View) → IsFill a → SameWork v (view_after a v) × SameReferences v (view_after a v) × SameMade v (view_after a v)
-fill_only (PutFresh t i x) v ok = (calm (PutFresh t i x) v tt, (λ b. refl), record { state = λ b. refl; local = λ b. refl; taken = λ b. refl; places = λ b. refl; uses = λ b. refl })
+fill_only (PutFresh t i x) v ok = (calm (PutFresh t i x) v tt, (λ b. refl), record { state = λ b. refl; local = λ b. refl; taken = λ b. refl; places = λ b. refl; uses = λ b. refl; raised = λ b. refl })
 fill_only a v ok = absurd ok
 
 pub filled_by : (a : Act) (v w : View) → IsFill a → w ≡ view_after a v → KeepsUnwritten v w → OnlyFilled v w
@@ -76,7 +76,7 @@ module _ (called : Call) (said : Reply) (n : ℕ) (v u w : View) (l : OnlyFilled
         owes = x.owes;
         tables = x.tables ∙ l.work.tables;
         made = settled_then v u w (stays_settled_same v u l.made) x.made;
-        loses = λ b. subst (λ (m : ℕ). references_held w.shape b w.log + named_in_words b (kind_in w.shape.starts o) (held_words o w) ≤ m) (λ d. l.references b d + named_in_words b (kind_in (s d).starts o) (words d)) (x.loses b);
+        loses = λ b. subst (λ (m : ℕ × ℕ). references_held w.shape b w.log + named_in_words b (kind_in w.shape.starts o) (held_words o w) + m.0 ≤ m.1 + times_raised b w.log) (λ d. (l.made.raised b d, l.references b d + named_in_words b (kind_in (s d).starts o) (words d))) (x.loses b);
         seen = le_trans l.work.pass.seen x.seen;
         shows = x.shows;
         others = λ p low ne mine quiet.
@@ -156,8 +156,12 @@ module _ (called : Call) (said : Reply) (number f root : ℕ) (v r u w : View) w
         used = ends.used;
         owes = ends.owes;
         tables = ends.tables ∙ w1.tables;
-        made = settled_then v rooted w (stays_settled_same v rooted (record { state = λ b. refl; local = λ b. refl; taken = λ b. refl; places = λ b. refl; uses = λ b. refl })) (settled_then rooted u w puts.made ends.made);
-        loses = λ b. subst (λ (m : ℕ). m ≤ references_held v.shape b v.log + named_in_words b (kind_in v.shape.starts at) (held_words at v)) (sym (ends.moves b)) (subst (λ (m : ℕ). references_held u.shape b u.log + named_in_words b (kind_in u.shape.starts at) (held_words at u) ≤ m) (moves b) (puts.loses b));
+        made = settled_then v rooted w (stays_settled_same v rooted (record { state = λ b. refl; local = λ b. refl; taken = λ b. refl; places = λ b. refl; uses = λ b. refl; raised = λ b. refl })) (settled_then rooted u w puts.made ends.made);
+        loses = λ b.
+            let one : references_held u.shape b u.log + named_in_words b (kind_in u.shape.starts at) (held_words at u) + times_raised b v.log ≤ references_held v.shape b v.log + named_in_words b (kind_in v.shape.starts at) (held_words at v) + times_raised b u.log = subst (λ (m : ℕ). references_held u.shape b u.log + named_in_words b (kind_in u.shape.starts at) (held_words at u) + times_raised b v.log ≤ m + times_raised b u.log) (moves b) (puts.loses b) in
+            let two = ends.moves b in
+            let three = ends.raised b in
+            omega (arith, one, two, three);
         seen = le_trans p1.seen ends.seen;
         shows = ends.shows;
         others = λ p low ne mine quiet'.

@@ -33,7 +33,7 @@ pub untouched_then : (u v w : View) → Untouched u v → Untouched v w → Unto
 untouched_then u v w a b = record {
   shape = b.shape ∙ a.shape;
   references = λ c. b.references c ∙ a.references c;
-  made = record { state = λ c. b.made.state c ∙ a.made.state c; local = λ c. b.made.local c ∙ a.made.local c; taken = λ c. b.made.taken c ∙ a.made.taken c; places = λ c. b.made.places c ∙ a.made.places c; uses = λ c. b.made.uses c ∙ a.made.uses c };
+  made = record { state = λ c. b.made.state c ∙ a.made.state c; local = λ c. b.made.local c ∙ a.made.local c; taken = λ c. b.made.taken c ∙ a.made.taken c; places = λ c. b.made.places c ∙ a.made.places c; uses = λ c. b.made.uses c ∙ a.made.uses c; raised = λ c. b.made.raised c ∙ a.made.raised c };
   writes = λ p. b.writes p ∙ a.writes p;
 }
 
@@ -46,7 +46,7 @@ tried_untouched k class result v w t = record { shape = t.same.shape; references
 answered_untouched : (called : Call) (said : Reply) (n : ℕ) (v w : View) → Answered called said n v w → Untouched v w
 answered_untouched called said n v w x =
     untouched_then v x.before w (loaded_untouched v x.before x.loaded)
-    (subst (Untouched x.before) (sym x.answered) (record { shape = refl; references = λ c. refl; made = record { state = λ c. refl; local = λ c. refl; taken = λ c. refl; places = λ c. refl; uses = λ c. refl }; writes = λ p. refl }))
+    (subst (Untouched x.before) (sym x.answered) (record { shape = refl; references = λ c. refl; made = record { state = λ c. refl; local = λ c. refl; taken = λ c. refl; places = λ c. refl; uses = λ c. refl; raised = λ c. refl }; writes = λ p. refl }))
 
 pub unmade_untouched : (R : View → View → Type 0) (k : Shape) (takes : Option ℕ) (over : Bool) (called : Call) (said : Reply) (v w : View) (what : Added) → (WasMade what → ⊥) → IsAddedWith R k takes over called said v w what → Untouched v w
 unmade_untouched R k takes over called said v w (added.Made stamp) unmade x = absurd (unmade (stamp, refl))

@@ -7,10 +7,10 @@ use lib.ListN.{get_elem?}
 use Rattle.ft_trace.specs.declared.Shape.{Shape}
 use Rattle.ft_trace.specs.declared.View.{View}
 use Rattle.ft_trace.specs.declared.Act.{Act}
-use Rattle.ft_trace.specs.declared.Act.TheVariants.{ReadBox, ReadRoot, ReadTable, ReadCounter, Version}
+use Rattle.ft_trace.specs.declared.Act.TheVariants.{Announce, ReadRoot}
 use Rattle.ft_trace.specs.Acts.{reads}
 use Rattle.ft_trace.specs.Addresses.{IsTableName, container_count}
-use Rattle.ft_trace.specs.LoggedLookUps.{Online, LookUpWindow, Inner, IsNew}
+use Rattle.ft_trace.specs.LoggedLookUps.{Online, LookUpWindow, ReadsNoRoot, IsNew}
 use Rattle.ft_trace.specs.Traces.{Event, run, Valid}
 use Rattle.ft_trace.proofs.Cases.{miss, here}
 use Rattle.ft_trace.proofs.EarlierMoments.{was}
@@ -22,21 +22,17 @@ abbrev pub unread : ℕ → List Act → ℕ
 unread zero l = 0
 unread (suc t) l = cond (reads t l) 0 1 + unread t l
 
-inner_reads : (t : ℕ) (mid l : List Act) → Inner mid → reads t (mid ++ l) ≡ reads t l
-inner_reads t [] l q = refl
-inner_reads t (Version o f ∷ mid) l q = inner_reads t mid l q
-inner_reads t (ReadTable p i f ∷ mid) l q = inner_reads t mid l q
-inner_reads t (ReadCounter f ∷ mid) l q = inner_reads t mid l q
-inner_reads t (ReadBox b i f ∷ mid) l q = inner_reads t mid l q
-inner_reads t (act ∷ mid) l q = absurd q
+reads_stay : (t : ℕ) (mid l : List Act) → ReadsNoRoot mid → reads t (mid ++ l) ≡ reads t l
+reads_stay t [] l q = refl
+reads_stay t (ReadRoot o f ∷ mid) l q = absurd q
+reads_stay t (Announce p x ∷ mid) l q = absurd q
+reads_stay t (act ∷ mid) l q = reads_stay t mid l q
 
-pub inner_online : (mid : List Act) (a : Act) → Inner mid → Online (a ∷ []) → Online (mid ++ a ∷ [])
-inner_online [] a q on = on
-inner_online (Version o f ∷ mid) a q on = inner_online mid a q on
-inner_online (ReadTable p i f ∷ mid) a q on = inner_online mid a q on
-inner_online (ReadCounter f ∷ mid) a q on = inner_online mid a q on
-inner_online (ReadBox b i f ∷ mid) a q on = inner_online mid a q on
-inner_online (act ∷ mid) a q on = absurd q
+stays_online : (mid : List Act) (a : Act) → ReadsNoRoot mid → Online (a ∷ []) → Online (mid ++ a ∷ [])
+stays_online [] a q on = on
+stays_online (ReadRoot o f ∷ mid) a q on = absurd q
+stays_online (Announce p x ∷ mid) a q on = absurd q
+stays_online (act ∷ mid) a q on = stays_online mid a q on
 
 -- the table of a root
 pub found_table : (k : Shape) (es : List Event) → Valid k es → (j : ℕ) (u : View) → get_elem? (run k es).views j ≡ some u → (o t : ℕ) → o < container_count k → (rest : List Act) → u.log ≡ ReadRoot o (suc t) ∷ rest → IsTableName k t
@@ -47,13 +43,13 @@ found_table k es valid j u at o t low rest is =
 pub is_new : (k : Shape) (es : List Event) → Valid k es → (j : ℕ) (u : View) → get_elem? (run k es).views j ≡ some u → (o r : ℕ) → o < container_count k → (l : List Act) → u.log ≡ ReadRoot o r ∷ l → IsNew o r l
 is_new k es valid j u at o r low l is t f mid rest names ne log q =
     let whole : u.log ≡ ReadRoot o (suc t) ∷ (mid ++ ReadRoot o f ∷ rest) = is ∙ (ap (λ (z : ℕ). ReadRoot o z ∷ l) names ∙ ap (λ (z : List Act). ReadRoot o (suc t) ∷ z) log) in
-    ap (reads t) log ∙ (inner_reads t mid (ReadRoot o f ∷ rest) q ∙ (miss f (suc t) true (reads t rest) (λ e. ne (e ∙ sym names)) ∙ by (reads t rest) refl whole))
+    ap (reads t) log ∙ (reads_stay t mid (ReadRoot o f ∷ rest) q ∙ (miss f (suc t) true (reads t rest) (λ e. ne (e ∙ sym names)) ∙ by (reads t rest) refl whole))
   where
     by : (b : Bool) → reads t rest ≡ b → u.log ≡ ReadRoot o (suc t) ∷ (mid ++ ReadRoot o f ∷ rest) → b ≡ false
     by false e whole = refl
     by true e whole =
         let walk = mid ++ ReadRoot o f ∷ [] in
-        let win : LookUpWindow u.log o t walk = record { newer = []; rest = rest; is = whole ∙ ap (λ (z : List Act). ReadRoot o (suc t) ∷ z) (sym (append_assoc mid (ReadRoot o f ∷ []) rest)); online = inner_online mid (ReadRoot o f) q tt; before = e } in
+        let win : LookUpWindow u.log o t walk = record { newer = []; rest = rest; is = whole ∙ ap (λ (z : List Act). ReadRoot o (suc t) ∷ z) (sym (append_assoc mid (ReadRoot o f ∷ []) rest)); online = stays_online mid (ReadRoot o f) q tt; before = e } in
         let h = root_again k es valid j u at o t low walk win mid (ReadRoot o f) [] refl in
         let tells : f ≡ root k h.0 o = h.3 in
         absurd (ne (tells ∙ (h.4 ∙ sym names)))
@@ -75,9 +71,9 @@ sum_less a b c d p q = omega (arith, p, q)
 sum_one : (a b c d : ℕ) → a ≡ 0 → b ≡ 1 → c ≤ d → a + c < b + d
 sum_one a b c d p q r = omega (arith, p, q, r)
 
-pub unread_inner : (n : ℕ) (mid l : List Act) → Inner mid → unread n (mid ++ l) ≡ unread n l
-unread_inner zero mid l q = refl
-unread_inner (suc t) mid l q = let a : weight (reads t (mid ++ l)) ≡ weight (reads t l) = ap weight (inner_reads t mid l q) in let b : unread t (mid ++ l) ≡ unread t l = unread_inner t mid l q in sum_same (weight (reads t (mid ++ l))) (weight (reads t l)) (unread t (mid ++ l)) (unread t l) a b
+pub unread_stay : (n : ℕ) (mid l : List Act) → ReadsNoRoot mid → unread n (mid ++ l) ≡ unread n l
+unread_stay zero mid l q = refl
+unread_stay (suc t) mid l q = let a : weight (reads t (mid ++ l)) ≡ weight (reads t l) = ap weight (reads_stay t mid l q) in let b : unread t (mid ++ l) ≡ unread t l = unread_stay t mid l q in sum_same (weight (reads t (mid ++ l))) (weight (reads t l)) (unread t (mid ++ l)) (unread t l) a b
 
 less_read : (b c : Bool) → weight (cond b true c) ≤ weight c
 less_read true true = let z : 0 ≤ 0 = omega arith in z

@@ -164,6 +164,13 @@ IsReadAt t kind_at payload_at kind payload mid =
 -- ---- roots
 
 -- none of these reads a root or announces
+abbrev pub ReadsNoRoot : List Act → Type 0
+ReadsNoRoot [] = Unit {0}
+ReadsNoRoot (ReadRoot o f ∷ l) = ⊥
+ReadsNoRoot (Announce p x ∷ l) = ⊥
+ReadsNoRoot (act ∷ l) = ReadsNoRoot l
+
+-- these are loads of versions, of words of tables and of boxes, and of the counter
 abbrev pub Inner : List Act → Type 0
 Inner [] = Unit {0}
 Inner (Version o f ∷ l) = Inner l
@@ -176,4 +183,5 @@ Inner (act ∷ l) = ⊥
 -- announced
 abbrev pub IsNew : ℕ → ℕ → List Act → Type 0
 IsNew o r l =
-    (t f : ℕ) (mid rest : List Act) → r ≡ suc t → f ≢ r → l ≡ mid ++ ReadRoot o f ∷ rest → Inner mid → reads t l ≡ false
+    (t f : ℕ) (mid rest : List Act) → r ≡ suc t → f ≢ r → l ≡ mid ++ ReadRoot o f ∷ rest → ReadsNoRoot mid
+    → reads t l ≡ false

@@ -20,7 +20,7 @@ use Rattle.ft_list.specs.declared.addition.Addition.{Addition}
 use Rattle.ft_list.specs.declared.addition.Addition.TheVariants.{One, All}
 use Rattle.ft_bank.specs.BoxSteps.{HasReferenceFor}
 use Rattle.ft_search.specs.HeldValues.{StoresBox}
-use Rattle.ft_list.specs.HeldValues.{HasWordsFrom}
+use Rattle.ft_list.specs.HeldValues.{HasWordsFrom, SharesItems}
 use Rattle.ft_list.specs.ListItemWrites.{ReadsAs, known_items, stored_item}
 
 -- how many items are added
@@ -43,15 +43,17 @@ abbrev pub stored_in : Addition → Stored
 stored_in (One place value stored) = stored
 stored_in (All other count) = Empty
 
--- A value that is added in a box stands in the list in that box.
-abbrev pub NamesAdded : ℕ → List Value → Addition → View → Type 0
-NamesAdded o values (One place value stored) w =
+-- A value that is added in a box stands in the list in that box; items that are added stand in the boxes in which they
+-- stood in the list that has them.
+abbrev pub NamesAdded : ℕ → List Value → Addition → View → View → Type 0
+NamesAdded o values (One place value stored) v w =
     stored_kind stored ≡ box_kind → HasWordsFrom o values place value (stored_kind stored) (stored_payload stored) w
-NamesAdded o values (All other count) w = Unit {0}
+NamesAdded o values (All other count) v w = SharesItems o (length values) other count v w
 
--- the box of what is added is that of an item, and the pass has no place taken any longer for one that no write stored
+-- the boxes of what is added are those of items, and the pass has no place taken any longer for one that no write
+-- stored
 abbrev pub HasNamed : ℕ → Addition → View → View → Type 0
-HasNamed o addition v w = NamesAdded o (known_items o v) addition w × ((b : ℕ) → place_use b w.log ≢ use_taken)
+HasNamed o addition v w = NamesAdded o (known_items o v) addition v w × ((b : ℕ) → place_use b w.log ≢ use_taken)
 
 -- a box whose place the pass has taken, and which no write of it has stored yet, is the one that is added
 abbrev pub StoresAddition : Addition → Call → View → Type 0

@@ -9,7 +9,7 @@ use Rattle.ft_trace.specs.declared.View.{View}
 use Rattle.ft_trace.specs.Acts.{has_committed}
 use Rattle.ft_trace.specs.Addresses.{class_of, slots}
 use Rattle.ft_trace.specs.Carefuls.{IsDead, HasLiveKey, OpensChanged}
-use Rattle.ft_trace.specs.Holds.{held_unboxed, known_state}
+use Rattle.ft_trace.specs.Holds.{held_words, held_unboxed, known_state}
 use Rattle.ft_trace.specs.Kinds.{rows, under}
 use Rattle.ft_trace.specs.Pictures.{entry_field, ContainerWords, Represents}
 use Rattle.ft_trace.specs.ContainerStates.{ContainerState, state_at, kind_in, changes}
@@ -21,6 +21,13 @@ use Rattle.ft_search.specs.OneEntryWrites.{WritesEntries}
 -- the version of the entry at a place of the table t
 abbrev pub version_of : ℕ → ContainerWords → ℕ → ℕ
 version_of t x p = entry_field (slots (class_of t)) x.table p 0
+
+-- all words of the entries of the table t of the container o, but their versions, stand as they stood
+abbrev pub KeepsEntries : ℕ → ℕ → View → View → Type 0
+KeepsEntries o t v w =
+    (p word : ℕ) → 0 < word → word < 8
+    → entry_field (slots (class_of t)) (held_words o w).table p word
+    ≡ entry_field (slots (class_of t)) (held_words o v).table p word
 
 -- no entry whose version is odd has a key that was deleted and that is there
 abbrev pub NoneDead : ℕ → ℕ → ContainerWords → ContainerState → Type 0

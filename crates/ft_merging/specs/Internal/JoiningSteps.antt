@@ -1,10 +1,11 @@
 -- A dict or a set in the midst of a write that puts the keys of another one into it.
-use Rattle.std.specs.Prelude.{◌≡◌, ◌≢◌, ℕ, ◌+◌, ◌^◌, ◌%◌, ◌<◌, ◌≤◌, true, not, ◌&&◌, List, [], ◌∷◌, drop, length, All, AllPairs, Option, Some, None, if◌then◌else◌}
+use Rattle.std.specs.Prelude.{◌≡◌, ◌≢◌, ◌⊎◌, ℕ, ◌+◌, ◌^◌, ◌%◌, ◌<◌, ◌≤◌, true, not, ◌&&◌, List, [], ◌∷◌, drop, length, All, AllPairs, Option, Some, None, if◌then◌else◌}
 use Rattle.ft_model.specs.declared.content.Content.{Content}
 use Rattle.ft_model.specs.declared.data.Key.{Key}
 use Rattle.ft_model.specs.declared.script.Kind.{Kind}
 use Rattle.ft_model.specs.Worlds.{kind_of, length_of, serial_of}
 use Rattle.ft_layout.specs.declared.slot.Pair.{Pair}
+use Rattle.ft_layout.specs.declared.slot.Ref.{Ref}
 use Rattle.ft_layout.specs.declared.slot.Slot.{Slot}
 use Rattle.ft_layout.specs.declared.slot.Slot.TheVariants.{Gone, Live, Never}
 use Rattle.ft_layout.specs.declared.slot.Stored.{Stored}
@@ -17,22 +18,27 @@ use Rattle.ft_keys.specs.Ways.{IsTableOf}
 use Rattle.ft_trace.specs.declared.Shape.{Shape}
 use Rattle.ft_trace.specs.declared.View.{View}
 use Rattle.ft_trace.specs.Addresses.{class_of, slots}
+use Rattle.ft_trace.specs.BoxWords.{box_kind}
 use Rattle.ft_trace.specs.Carefuls.{IsDead, HasLiveKey}
 use Rattle.ft_trace.specs.EntryWrites.{value_puts}
-use Rattle.ft_trace.specs.Holds.{held_unboxed, known_state}
+use Rattle.ft_trace.specs.Holds.{held_words, held_unboxed, known_state}
 use Rattle.ft_trace.specs.Kinds.{rows, under}
 use Rattle.ft_trace.specs.Pictures.{ContainerWords, entry_field}
 use Rattle.ft_trace.specs.ContainerStates.{kind_in}
 use Rattle.ft_trace.specs.WholeWrites.{Put}
 use Rattle.ft_bank.specs.declared.table.Table.{Table}
+use Rattle.ft_bank.specs.BoxSteps.{box_id}
 use Rattle.ft_bank.specs.TableNames.{table_id}
 use Rattle.ft_search.specs.declared.spots.Spot.{Spot}
 use Rattle.ft_search.specs.declared.spots.Spot.TheVariants as spot
 use Rattle.ft_search.specs.Held.{IsHeldAt}
+use Rattle.ft_search.specs.HeldValues.{NamesBoxAt}
 use Rattle.ft_search.specs.Rounds.{kind_by}
 use Rattle.ft_new_keys.specs.declared.counts.Counts.{Counts}
 use Rattle.ft_new_keys.specs.KeyGrowth.{IsFreeFor, holds}
 use Rattle.ft_new_keys.specs.Placing.{StoresAs, with_key}
+use Rattle.ft_merging.specs.declared.sharing.EntryAt.{EntryAt}
+use Rattle.ft_merging.specs.Joining.{HaveEqual}
 use Rattle.ft_merging.specs.Internal.EntriesAtOnce.{IsMidway, version_of}
 use Rattle.ft_search.specs.OneEntryWrites.{are_of_value}
 
@@ -144,3 +150,23 @@ stored_puts n words place (Plain value) =
     else value_puts n words place None value
 stored_puts n words place Empty = []
 stored_puts n words place (Boxed block) = []
+
+-- ---- values in boxes
+
+-- where the value of the one entry named a box, that of the other entry names it then
+abbrev pub SharesBox : EntryAt → EntryAt → View → View → Type 0
+SharesBox from to v w =
+    entry_field (slots (class_of (table_id from.table))) (held_words from.o v).table from.place 4 ≡ box_kind
+    → (entry_field (slots (class_of (table_id to.table))) (held_words to.o w).table to.place 4 ≡ box_kind)
+    × (entry_field (slots (class_of (table_id to.table))) (held_words to.o w).table to.place 5
+    ≡ entry_field (slots (class_of (table_id from.table))) (held_words from.o v).table from.place 5)
+
+-- Where the value of an entry before this place of the table of the dict t names a box, the entry of its key in the table
+-- of the dict o names that box; or o had an equal value at the key before the call.
+abbrev pub SharesBelow : ℕ → ℕ → Table → ℕ → View → Type 0
+SharesBelow o t table place v =
+    (p : ℕ) (key : Key) (b : Ref) → p < place → FitsKey key
+    → HasLiveKey (slots (class_of (table_id table))) (held_unboxed t v).table p key
+    → entry_field (slots (class_of (table_id table))) (held_words t v).table p 4 ≡ box_kind
+    → entry_field (slots (class_of (table_id table))) (held_words t v).table p 5 ≡ box_id b
+    → NamesBoxAt o key b v ⊎ HaveEqual o t key v

@@ -1,5 +1,5 @@
 use Rattle.ft_bank.specs.Passes.{shape_of, view}
-use Rattle.ft_bank_tests.proofs.Reversing.{may_commit, shut_after, stands_after, writes_merged, wrote}
+use Rattle.ft_bank_tests.proofs.Reversing.{may_commit, shut_after, stands_after, writes_merged, writes_raised, wrote}
 use Rattle.ft_bank_tests.proofs.writes.reverse.Goals as goal
 
 pub commit-number-requires-clause-may : goal.commit-number-requires-clause-may
@@ -36,3 +36,9 @@ returns-clause-merged c =
     let a = c.args in
     let d = c.commit-number.ensures.did in
     writes_merged a.l (view a.pass.now) (view c.start_write.new.pass) (view c.commit-number.new.pass) (view c.stop_write.new.pass) c.start_write.result c.commit-number.result c.stop_write.result d.0 c.start_write.ensures.1 d.1.1 c.stop_write.ensures.1
+
+pub returns-clause-raised : goal.returns-clause-raised
+returns-clause-raised c =
+    let a = c.args in
+    let d = c.commit-number.ensures.did in
+    writes_raised a.l (view a.pass.now) (view c.start_write.new.pass) (view c.commit-number.new.pass) (view c.stop_write.new.pass) c.start_write.result c.commit-number.result c.stop_write.result d.0 c.start_write.ensures.1 d.1.1 c.stop_write.ensures.1

@@ -20,5 +20,6 @@ returns-clause-reversed c =
       bare = ap root_in (loaded_held v w c.args.l only) ∙ (sym (c.read_block.ensures.held c.requires.may.locked) ∙ c.if-read_block-ne0.false);
       wrote = c.reverse.ensures.wrote;
       still_bare = c.reverse.ensures.still_bare;
+      raised = c.reverse.ensures.raised;
       merged = λ merged. c.reverse.ensures.merged (λ b own. merged b (sym (only.boxes.made.state b) ∙ own));
     }

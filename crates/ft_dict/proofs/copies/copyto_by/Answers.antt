@@ -17,3 +17,6 @@ pub returns-clause-cursors : goal.returns-clause-cursors
 returns-clause-cursors c =
     let a = c.args in
     replaced_cursors (shape_of a.bank.now) (copy_takes (length_of (known_state a.d (view a.pass.now)).content)) (call.Dict a.d (dict.CopyTo a.e)) (view a.pass.now) (view c.copy_into.new.pass) c.copy_into.result c.copy_into.ensures.replaced
+
+pub returns-clause-copied : goal.returns-clause-copied
+returns-clause-copied c = (c.copy_into.ensures.replaced, c.copy_into.ensures.shares)

@@ -45,7 +45,7 @@ returns-in-SetDefault-clause-made c = subst (λ (dc : DictCall). DictCallMakes (
 pub returns-in-Update-clause-making : goal.returns-in-Update-clause-making
 returns-in-Update-clause-making c =
     let e = c.update_by.ensures in
-    making_added c.args.bank.now c.args.pass.now c.update_by.new.pass c.requires.making e.pass e.stack e.added.0 e.added.1 _ _ _ (call.Dict c.args.d (dict.Update c.in-Update.other)) _ c.update_by.result (λ n l sections. refl) e.added.2
+    making_added c.args.bank.now c.args.pass.now c.update_by.new.pass c.requires.making e.pass e.stack e.added.0.0 e.added.0.1 _ _ _ (call.Dict c.args.d (dict.Update c.in-Update.other)) _ c.update_by.result (λ n l sections. refl) e.added.0.2
 
 pub returns-in-Update-clause-made : goal.returns-in-Update-clause-made
 returns-in-Update-clause-made c =
@@ -61,7 +61,7 @@ pub returns-in-CopyTo-clause-making : goal.returns-in-CopyTo-clause-making
 returns-in-CopyTo-clause-making c =
     let a = c.args in
     let e = c.copyto_by.ensures in
-    replaced_making a.bank.now a.pass.now c.copyto_by.new.pass c.requires.making e.pass e.stack (shape_of a.bank.now) (copy_takes (length_of (known_state a.d (view a.pass.now)).content)) (call.Dict a.d (dict.CopyTo c.in-CopyTo.other)) c.copyto_by.result (λ n l sections. refl) e.copied
+    replaced_making a.bank.now a.pass.now c.copyto_by.new.pass c.requires.making e.pass e.stack (shape_of a.bank.now) (copy_takes (length_of (known_state a.d (view a.pass.now)).content)) (call.Dict a.d (dict.CopyTo c.in-CopyTo.other)) c.copyto_by.result (λ n l sections. refl) e.copied.0
 
 -- ---- calls that make one whole write, or none
 

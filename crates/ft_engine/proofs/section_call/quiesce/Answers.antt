@@ -48,7 +48,7 @@ returns c hands =
     let x = c.merge_idle.ensures in
     let m = view c.merge_idle.new.pass in
     let rests = calm (goal.at.returns c).After-quiesce in (
-      quiesce_answer c.args.bank.now c.args.pass.now q c.answer.new.pass m (record { number = n; wrote = false }) c.requires.ready c.requires.left c.quiesce.ensures.pass (c.quiesce.ensures.sections ∙ x.sections) rests (boxed_nothing (view c.args.pass.now) m x.only).pass x.left c.quiesce.ensures.did c.quiesce.ensures.online
+      quiesce_answer c.args.bank.now c.args.pass.now q c.answer.new.pass m (record { number = n; wrote = false }) c.requires.ready c.requires.left c.quiesce.ensures.pass (c.quiesce.ensures.sections ∙ x.sections) rests (boxed_nothing (view c.args.pass.now) m x.only).pass x.only x.merges x.left c.quiesce.ensures.did c.quiesce.ensures.online
           (a.0 ∙ (d.0 ∙ c.quiesce.ensures.pass.0), ap (λ (z : View). z.shape) a.1 ∙ (ap (λ (z : View). z.shape) d.1 ∙ c.quiesce.ensures.pass.1)) (a.2 ∙ d.2)
           (a.1 ∙ ap (view_after (Answer call.Quiesce reply.Done n)) d.1) refl c.stamp-number.ensures.seen,
       no_containers hands call.Quiesce c.args.pass.now refl,

@@ -111,7 +111,7 @@ returns-in-None-clause-named c made =
     let n = a.count + count_in a.addition in
     let none : n ≡ 0 = wanted_bare n (subst (λ (z : Option Table). list_takes (list_use_of z) n ≡ None) c.in-None.is c.requires.room) in
     let zero : count_in a.addition ≡ 0 = omega (arith, none) in (
-      names_none a.l (known_items a.l v) a.addition (view c.write_nothing-number.new.pass) zero,
+      names_none a.l (known_items a.l v) a.addition v (view c.write_nothing-number.new.pass) zero,
       (λ b taken. stores_untaken a.addition a.called.now v zero c.requires.stores b (c.write_nothing-number.ensures.wrote.made.places b taken)),
     )
 

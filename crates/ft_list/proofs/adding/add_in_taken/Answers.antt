@@ -1,9 +1,9 @@
-use Rattle.std.proofs.Common.{◌≡◌, ◌≢◌, ℕ, suc, ◌+◌, false, List, length, Some, refl, sym, ap, ◌∙◌, subst, arith}
+use Rattle.std.proofs.Common.{◌≡◌, ◌≢◌, ℕ, suc, ◌+◌, ◌<◌, false, List, length, Some, refl, sym, ap, ◌∙◌, subst, arith}
 use Rattle.ft_model.specs.declared.call.Call.{Call}
 use Rattle.ft_model.specs.declared.data.Value.{Value}
 use Rattle.ft_model.specs.declared.reply.Reply.TheVariants as reply
 use Rattle.ft_model.specs.TableUses.{CanLackMemory, takes_in, would_pass}
-use Rattle.ft_trace.specs.Addresses.{class_of}
+use Rattle.ft_trace.specs.Addresses.{class_of, container_count}
 use Rattle.ft_trace.specs.Holds.{held_unboxed}
 use Rattle.ft_trace.specs.Pictures.{ContainerWords, root_in}
 use Rattle.ft_trace.specs.ContainerStates.{changes}
@@ -18,7 +18,8 @@ use Rattle.ft_list.specs.ListWrites.{Grows}
 use Rattle.ft_list.specs.ListItemWrites.{known_items}
 use Rattle.ft_list.specs.Internal.Additions.{count_in, with_added, NamesAdded}
 use Rattle.ft_table_calls.proofs.Unmade.{not_made}
-use Rattle.ft_list.proofs.AddedStored.{names_kept, retired_uses, stores_on, words_kept_all}
+use Rattle.ft_list.proofs.AddedStored.{given_same, names_from, names_kept, retired_uses, stores_on, words_kept_all}
+use Rattle.ft_trace.specs.declared.Shape.{Shape}
 use Rattle.ft_list.proofs.Additions.{taken_grows, no_table_lacks, taken_room, taken_other, taken_wider, taken_root, tried_addition, tried_has, tried_grows, tried_items, tried_knows, tried_may, tried_news}
 use Rattle.ft_list.proofs.Extending.{added_long}
 use Rattle.ft_list.proofs.GrowWrites.{list_changes}
@@ -168,9 +169,11 @@ returns-in-Taken-clause-named c made =
     let w = view c.retire_old.new.pass in
     let e = c.in-Taken.ensures in
     let retired = c.retire_old.ensures.retired in
+    let given = given_same (shape_of a.bank.now) a.count a.addition v u c.requires.addition (λ p list. (e.keeps.held.words p (subst (λ (z : Shape). p < container_count z) (sym c.requires.pass.1) list.container) list.locked).0) in
     let items : known_items a.l u ≡ known_items a.l v = tried_items _ v u e.same e.keeps (shape_of a.bank.now) a.l a.old c.requires.pass.1 c.requires.may.list in (
-      subst (λ (l : List Value). NamesAdded a.l l a.addition w) items
-          (names_kept a.l (known_items a.l u) a.addition done w (words_kept_all a.l done w (ap (λ (x : ContainerWords). x.table) (retired_knows _ done w retired a.l).0)) c.add_in-number.ensures.named),
+      subst (λ (l : List Value). NamesAdded a.l l a.addition v w) items
+          (names_from a.l (known_items a.l u) a.addition v u w given
+          (names_kept a.l (known_items a.l u) a.addition u done w (words_kept_all a.l done w (ap (λ (x : ContainerWords). x.table) (retired_knows _ done w retired a.l).0)) c.add_in-number.ensures.named)),
       (λ b taken. c.add_in-number.ensures.stored b (sym (retired_uses _ done w retired b) ∙ taken)),
     )
 

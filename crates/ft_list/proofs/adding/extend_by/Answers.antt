@@ -1,14 +1,16 @@
-use Rattle.std.proofs.Common.{◌≡◌, ◌<◌, ℕ, ◌+◌, length, refl, sym, ap, ◌∙◌, subst, arith}
+use Rattle.std.proofs.Common.{◌≡◌, ◌<◌, ℕ, ◌+◌, List, length, refl, sym, ap, ◌∙◌, subst, arith}
 use Rattle.ft_model.specs.declared.call.Call.TheVariants as call
 use Rattle.ft_model.specs.declared.call.ListCall.TheVariants as list
 use Rattle.ft_model.specs.declared.reply.Reply.TheVariants as reply
 use Rattle.ft_layout.specs.declared.slot.Stored.TheVariants.{Empty}
 use Rattle.ft_trace.specs.declared.Shape.{Shape}
 use Rattle.ft_trace.specs.Addresses.{container_count}
+use Rattle.ft_trace.specs.Pictures.{ContainerWords, item_field}
+use Rattle.ft_model.specs.declared.data.Value.{Value}
 use Rattle.ft_bank.specs.Passes.{shape_of, view}
-use Rattle.ft_bank.proofs.KnownAfterWrites.{loaded_then}
+use Rattle.ft_bank.proofs.KnownAfterWrites.{loaded_held, loaded_then}
 use Rattle.ft_table_calls.proofs.Cursors.{added_cursors}
-use Rattle.ft_list.specs.HeldValues.{GivesReference}
+use Rattle.ft_list.specs.HeldValues.{GivesReference, SharesItems}
 use Rattle.ft_list.specs.ListItemWrites.{known_items}
 use Rattle.ft_list.proofs.Additions.{adds_items}
 use Rattle.ft_list.proofs.ListCallFacts.{extend_adds}
@@ -115,3 +117,20 @@ add_to-requires-clause-spare c b =
     let same = held_same (shape_of a.bank.now) (view a.pass.now) (view c.root_table-old.new.pass) c.requires.pass.1 (l.work.pass.shape ∙ c.requires.pass.1) l.boxes.references b in
     let none = c.requires.may.boxes.none b in
     omega (arith, same, none)
+
+pub returns-clause-shares : goal.returns-clause-shares
+returns-clause-shares c made p low =
+    let a = c.args in
+    let v = view a.pass.now in
+    let x = view c.count_of-count.new.pass in
+    let y = view c.count_of-more.new.pass in
+    let u = view c.root_table-old.new.pass in
+    let e = c.root_table-old.ensures.only in
+    let f = c.count_of-more.ensures.only in
+    let g = c.count_of-count.ensures.only in
+    let l = loaded_then v x u g (loaded_then x y u f e) in
+    let more : c.count_of-more.result ≡ length (known_items a.m v) = c.count_of-more.ensures.count ∙ ap length (items_loaded a.m v x g) in
+    let same = loaded_held v u a.m l in
+    let items : known_items a.l u ≡ known_items a.l v = items_loaded a.l v u l in
+    let n = (subst (λ (z : List Value). SharesItems a.l (length z) a.m c.count_of-more.result u (view c.add_to.new.pass)) items (c.add_to.ensures.named made).0) p (omega (arith, low, more)) in
+    (n.0 ∙ ap (λ (q : ContainerWords). item_field q.table p 1) same, n.1 ∙ ap (λ (q : ContainerWords). item_field q.table p 2) same)

@@ -2,7 +2,7 @@ use Rattle.std.proofs.Common.{List, ◌++◌, ◌+◌, length, sym, ap, ◌∙�
 use Rattle.ft_model.specs.declared.data.Value.{Value}
 use Rattle.ft_trace.specs.Addresses.{class_of}
 use Rattle.ft_trace.specs.Holds.{held_unboxed}
-use Rattle.ft_trace.specs.Pictures.{ContainerWords, root_in}
+use Rattle.ft_trace.specs.Pictures.{ContainerWords, item_field, root_in}
 use Rattle.ft_bank.specs.Passes.{shape_of, view}
 use Rattle.ft_bank.specs.TableNames.{table_id}
 use Rattle.ft_bank.proofs.KnownAfterWrites.{written_then, loaded_held}
@@ -11,6 +11,7 @@ use Rattle.ft_list.specs.Internal.Moving.{IsMoving}
 use Rattle.ft_list.proofs.Cares.{writes_loaded, list_unboxed}
 use Rattle.ft_list.proofs.Extending.{gives_loaded}
 use Rattle.ft_list.proofs.Lists.{items_loaded}
+use Rattle.ft_list.proofs.SharedItems.{spare_same}
 use Rattle.ft_list.proofs.Written.{loaded_written}
 use Rattle.ft_list.proofs.addition.put_items.Goals as goal
 
@@ -76,3 +77,16 @@ returns-clause-moved c =
 
 pub returns-clause-references : goal.returns-clause-references
 returns-clause-references c b = c.put_from.ensures.references b ∙ c.table_at_root-from.ensures.only.boxes.references b
+
+pub put_from-requires-clause-spare : goal.put_from-requires-clause-spare
+put_from-requires-clause-spare c =
+    let a = c.args in
+    let e = c.table_at_root-from.ensures in
+    spare_same (shape_of a.bank.now) (view a.pass.now) (view c.table_at_root-from.new.pass) c.requires.pass.1 e.pass.1 e.only.boxes.references c.requires.spare
+
+pub returns-clause-shares : goal.returns-clause-shares
+returns-clause-shares c p low =
+    let a = c.args in
+    let same = loaded_held (view a.pass.now) (view c.table_at_root-from.new.pass) a.m c.table_at_root-from.ensures.only in
+    let n = c.put_from.ensures.shares p low in
+    (n.0 ∙ ap (λ (x : ContainerWords). item_field x.table p 1) same, n.1 ∙ ap (λ (x : ContainerWords). item_field x.table p 2) same)

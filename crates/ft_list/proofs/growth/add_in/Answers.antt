@@ -27,7 +27,8 @@ use Rattle.ft_list.proofs.GrowWrites.{earlier_root, taken_before_root, grow_fini
 use Rattle.ft_list.proofs.WholeListWrites.{grows_on, has_before}
 use Rattle.ft_list.proofs.Rooted.{rooted_known, rooted_other}
 use Rattle.ft_list.specs.Internal.Additions.{NamesAdded}
-use Rattle.ft_list.proofs.AddedStored.{names_kept, stores_added, words_kept_all}
+use Rattle.ft_list.proofs.AddedStored.{names_from, names_kept, stores_added, words_kept_all}
+use Rattle.ft_list.proofs.SharedItems.{given_rooted}
 use Rattle.ft_list.proofs.growth.add_in.Goals as goal
 use Rattle.ft_list.proofs.growth.add_in.Goals.{After-put_block}
 
@@ -105,7 +106,7 @@ overflow_add-past c =
     omega (arith, f, r, e)
 
 -- the item names the box once the length is put
-names_put : (c : After-put_block) → NamesAdded c.args.o (known_items c.args.o (view c.args.pass.now)) c.args.addition (view c.put_block.new.pass)
+names_put : (c : After-put_block) → NamesAdded c.args.o (known_items c.args.o (view c.args.pass.now)) c.args.addition (view c.args.pass.now) (view c.put_block.new.pass)
 names_put c =
     let a = c.args in
     let y = view c.put_added.new.pass in
@@ -113,12 +114,15 @@ names_put c =
     let s = view c.begin_in.new.pass in
     let items : known_items a.o s ≡ known_items a.o (view a.pass.now) =
     ap (λ (z : ContainerState). list_of z.content) (rooted_known a.o (suc (table_id a.table)) (view c.fill.new.pass) s c.begin_in.ensures.rooted a.o ∙ work_knows (view a.pass.now) (view c.fill.new.pass) a.o c.fill.ensures.only.work) in
-    subst (λ (l : List Value). NamesAdded a.o l a.addition u) items
-    (names_kept a.o (known_items a.o s) a.addition y u (words_kept_all a.o y u (ap (λ (z : ContainerWords). z.table) c.put_block.ensures.held)) c.put_added.ensures.named)
+    let v = view a.pass.now in
+    let given = given_rooted (shape_of a.bank.now) a.o (suc (table_id a.table)) a.count a.addition v (view c.fill.new.pass) s c.requires.pass.1 c.requires.addition c.fill.ensures.only c.begin_in.ensures.rooted c.begin_in.ensures.items in
+    subst (λ (l : List Value). NamesAdded a.o l a.addition v u) items
+    (names_from a.o (known_items a.o s) a.addition v s u given
+    (names_kept a.o (known_items a.o s) a.addition s y u (words_kept_all a.o y u (ap (λ (z : ContainerWords). z.table) c.put_block.ensures.held)) c.put_added.ensures.named))
 
 pub returns-clause-named : goal.returns-clause-named
 returns-clause-named c =
-    names_kept c.args.o (known_items c.args.o (view c.args.pass.now)) c.args.addition (view c.put_block.new.pass) (view c.finish.new.pass) c.finish.ensures.values (names_put (goal.at.returns-clause-named c).After-put_block)
+    names_kept c.args.o (known_items c.args.o (view c.args.pass.now)) c.args.addition (view c.args.pass.now) (view c.put_block.new.pass) (view c.finish.new.pass) c.finish.ensures.values (names_put (goal.at.returns-clause-named c).After-put_block)
 
 pub finish-requires-clause-may : goal.finish-requires-clause-may
 finish-requires-clause-may c =
@@ -168,7 +172,7 @@ finish-requires-clause-may c =
     (stores_added a.called.now v u (λ b taken. sym (g.made.uses b) ∙ taken_before_root k a.o a.old a.table x h.rooted u h.start may h.did only b taken)
     (λ world has. has_before v x knows_x g.work.pass.shape (λ p mine. g.work.pass.locks p ∙ mine) world (earlier_root k a.o a.old a.table x h.rooted u h.start may h.did only world has))
     k a.o a.table (ap (λ (z : View). z.shape) c.put_block.ensures.did.1 ∙ e.pass.1) list (list_changes a.o call_is.0 a.called.now call_is.1 call_is.2.write.changing)
-    a.addition olds a.count c.requires.count (first_low k a.count a.addition v c.requires.addition) c.requires.room c.requires.stores (names_put (goal.at.finish-requires-clause-may c).After-put_block))
+    a.addition olds a.count c.requires.count (first_low k a.count a.addition v c.requires.addition) c.requires.room c.requires.stores v (names_put (goal.at.finish-requires-clause-may c).After-put_block))
 
 pub returns-clause-wrote : goal.returns-clause-wrote
 returns-clause-wrote c =

@@ -1,4 +1,4 @@
-use Rattle.std.proofs.Common.{◌≡◌, ℕ, suc, Option, Some, length, sym, ap, ◌∙◌, subst, arith, get_or-set_same}
+use Rattle.std.proofs.Common.{◌≡◌, ℕ, suc, Option, Some, List, length, sym, ap, ◌∙◌, subst, arith, get_or-set_same}
 use Rattle.ft_layout.specs.Containers.{IsBlock}
 use Rattle.ft_trace.specs.declared.Act.TheVariants.{PutRoot, StartWrite}
 use Rattle.ft_trace.specs.declared.Shape.{Shape}
@@ -8,7 +8,7 @@ use Rattle.ft_trace.specs.Addresses.{class_of, slots}
 use Rattle.ft_trace.specs.Boxes.{named_in_root, references_held}
 use Rattle.ft_trace.specs.ContainerStates.{kind_in}
 use Rattle.ft_trace.specs.Holds.{held_words, held_unboxed, known_state, in_hand, hand_unboxed}
-use Rattle.ft_trace.specs.Pictures.{ContainerWords, root_in}
+use Rattle.ft_trace.specs.Pictures.{ContainerWords, item_field, root_in}
 use Rattle.ft_bank.specs.declared.table.Table.{Table}
 use Rattle.ft_bank.specs.Passes.{shape_of, view}
 use Rattle.ft_bank.specs.SameBoxes.{named_in_words, MovesReferences, SameReferences}
@@ -23,6 +23,7 @@ use Rattle.ft_list.proofs.Copied.{copied_filled, copied_names}
 use Rattle.ft_list.proofs.Filling.{filled_putting}
 use Rattle.ft_list.proofs.GrownLists.{grow_content, list_head, may_root, with_other_root}
 use Rattle.ft_list.proofs.Rooted.{put_is, put_moved, put_settled, rooted_locks, rooted_odd, start_reads}
+use Rattle.ft_list.proofs.SharedItems.{copied_words}
 use Rattle.ft_list.proofs.Written.{written_same}
 use Rattle.ft_list.proofs.growth.begin_in.Goals as goal
 use Rattle.ft_list.proofs.growth.begin_in.Goals.{After-put_root, After-start_write}
@@ -144,3 +145,14 @@ returns-clause-content c =
 
 pub returns-clause-head : goal.returns-clause-head
 returns-clause-head c = block_is (goal.at.returns-clause-head c).After-put_root
+
+-- each item names the same box in the other table
+pub returns-clause-items : goal.returns-clause-items
+returns-clause-items c place low =
+    let a = c.args in
+    let v = view a.pass.now in
+    let s = view c.start_write.new.pass in
+    let r = view c.put_root.new.pass in
+    let words : (held_words a.o r).table ≡ in_hand (table_id a.table) v = ap (λ (x : ContainerWords). x.table) c.put_root.ensures.held ∙ ap (in_hand (table_id a.table)) c.start_write.ensures.1 in
+    let same = copied_words (shape_of a.bank.now) a.o a.old v (class_of (table_id a.table)) (slots (class_of (table_id a.table))) (in_hand (table_id a.table) v) c.requires.may.list c.requires.pass.1 a.pass.now.possible c.requires.copied c.requires.room place low in
+    (ap (λ (l : List ℕ). item_field l place 1) words ∙ same.0, ap (λ (l : List ℕ). item_field l place 2) words ∙ same.1)

@@ -7,7 +7,7 @@ use Rattle.ft_trace.specs.declared.Act.TheVariants.{PutBlock}
 use Rattle.ft_trace.specs.declared.View.{View}
 use Rattle.ft_trace.specs.Acts.{has_lock, is_writing}
 use Rattle.ft_trace.specs.Addresses.{class_of, slots}
-use Rattle.ft_trace.specs.Holds.{held_unboxed, known_state}
+use Rattle.ft_trace.specs.Holds.{held_words, held_unboxed, known_state}
 use Rattle.ft_trace.proofs.Cases.{miss}
 use Rattle.ft_bank.specs.Passes.{shape_of, view}
 use Rattle.ft_bank.specs.TableNames.{table_id}
@@ -23,7 +23,7 @@ use Rattle.ft_list.proofs.FinishedWrites.{root_stays}
 use Rattle.ft_trace.specs.Pictures.{ContainerWords}
 use Rattle.ft_search.proofs.Owning.{keeps_begun}
 use Rattle.ft_list.specs.Internal.Additions.{NamesAdded}
-use Rattle.ft_list.proofs.AddedStored.{names_kept, stores_added, words_kept_all}
+use Rattle.ft_list.proofs.AddedStored.{given_same, names_from, names_kept, stores_added, words_kept_all}
 use Rattle.ft_list.proofs.GrowWrites.{list_changes}
 use Rattle.ft_list.proofs.WholeListWrites.{earlier_has, finishing, list_wrote, root_wrote, taken_before}
 use Rattle.ft_list.proofs.writes.add_items.Goals as goal
@@ -51,18 +51,21 @@ put_added-requires-clause-before c =
     subst (λ (l : List Value). IsPutting (class_of (table_id a.table)) l first past (stored_item l) (held_unboxed a.o (view c.begin.new.pass)).table) (sym items) (c.begin.ensures.putting first past)
 
 -- the item names the box once the length is put
-names_put : (c : After-put_block) → NamesAdded c.args.o (known_items c.args.o (view c.args.pass.now)) c.args.addition (view c.put_block.new.pass)
+names_put : (c : After-put_block) → NamesAdded c.args.o (known_items c.args.o (view c.args.pass.now)) c.args.addition (view c.args.pass.now) (view c.put_block.new.pass)
 names_put c =
     let a = c.args in
     let y = view c.put_added.new.pass in
     let u = view c.put_block.new.pass in
     let items : known_items a.o (view c.begin.new.pass) ≡ known_items a.o (view a.pass.now) = ap (λ (z : View). known_items a.o z) c.begin.ensures.did.1.1 in
-    subst (λ (l : List Value). NamesAdded a.o l a.addition u) items
-    (names_kept a.o (known_items a.o (view c.begin.new.pass)) a.addition y u (words_kept_all a.o y u (ap (λ (x : ContainerWords). x.table) c.put_block.ensures.held)) c.put_added.ensures.named)
+    let s = view c.begin.new.pass in
+    let given = given_same (shape_of a.bank.now) a.count a.addition (view a.pass.now) s c.requires.addition (λ p list. ap (λ (z : View). held_words p z) c.begin.ensures.did.1.1) in
+    subst (λ (l : List Value). NamesAdded a.o l a.addition (view a.pass.now) u) items
+    (names_from a.o (known_items a.o s) a.addition (view a.pass.now) s u given
+    (names_kept a.o (known_items a.o s) a.addition s y u (words_kept_all a.o y u (ap (λ (x : ContainerWords). x.table) c.put_block.ensures.held)) c.put_added.ensures.named))
 
 pub returns-clause-named : goal.returns-clause-named
 returns-clause-named c =
-    names_kept c.args.o (known_items c.args.o (view c.args.pass.now)) c.args.addition (view c.put_block.new.pass) (view c.finish.new.pass) c.finish.ensures.values (names_put (goal.at.returns-clause-named c).After-put_block)
+    names_kept c.args.o (known_items c.args.o (view c.args.pass.now)) c.args.addition (view c.args.pass.now) (view c.put_block.new.pass) (view c.finish.new.pass) c.finish.ensures.values (names_put (goal.at.returns-clause-named c).After-put_block)
 
 pub finish-requires-clause-may : goal.finish-requires-clause-may
 finish-requires-clause-may c =
@@ -99,7 +102,7 @@ finish-requires-clause-may c =
     let call_is = c.requires.call in
     finishing k a.o a.table v s u b.did.0 c.requires.may begun only first total call_is.0 a.called.now reply.Done values news call_is.1 call_is.2 b.content b.table list (ap (λ (z : View). z.shape) c.put_block.ensures.did.1 ∙ e.pass.1) changing head
     (stores_added a.called.now v u (taken_before k a.o a.table v s u b.did.0 c.requires.may begun only) (earlier_has k a.o a.table v s u b.did.0 c.requires.may begun only) k a.o a.table (ap (λ (z : View). z.shape) c.put_block.ensures.did.1 ∙ e.pass.1) list (list_changes a.o call_is.0 a.called.now call_is.1 call_is.2.write.changing)
-    a.addition values a.count n (first_low k a.count a.addition v c.requires.addition) c.requires.room c.requires.stores (names_put (goal.at.finish-requires-clause-may c).After-put_block))
+    a.addition values a.count n (first_low k a.count a.addition v c.requires.addition) c.requires.room c.requires.stores (view a.pass.now) (names_put (goal.at.finish-requires-clause-may c).After-put_block))
 
 pub returns-clause-wrote : goal.returns-clause-wrote
 returns-clause-wrote c =

@@ -1,10 +1,11 @@
-use Rattle.std.proofs.Common.{◌≡◌, ◌%◌, sym, ap, ◌∙◌, arith}
-use Rattle.ft_trace.specs.Holds.{held_unboxed}
-use Rattle.ft_trace.specs.Pictures.{ContainerWords}
+use Rattle.std.proofs.Common.{◌≡◌, ◌+◌, ◌%◌, sym, ap, ◌∙◌, arith, get_or-set_other}
+use Rattle.ft_trace.specs.Addresses.{class_of, slots}
+use Rattle.ft_trace.specs.Holds.{held_words, held_unboxed}
+use Rattle.ft_trace.specs.Pictures.{ContainerWords, entry_field, entry_offset}
 use Rattle.ft_trace.proofs.DictWrites.{EntryVersionsChangeNothing}
 use Rattle.ft_bank.specs.Passes.{shape_of, view}
 use Rattle.ft_bank.specs.TableNames.{table_id}
-use Rattle.ft_bank.proofs.KnownAfterWrites.{loaded_put, put_then}
+use Rattle.ft_bank.proofs.KnownAfterWrites.{loaded_held, loaded_put, put_then}
 use Rattle.ft_merging.specs.Internal.EntriesAtOnce.{IsClosing, version_of}
 use Rattle.ft_merging.proofs.Ending.{Laws, closing_care, closing_loaded, closing_raised, read_same}
 use Rattle.ft_merging.proofs.closing.close_at.Goals as goal
@@ -66,3 +67,17 @@ returns-then-version-eq1-clause-only c =
     let v = view c.args.pass.now in
     let u = view c.word_of-version.new.pass in
     put_then v u (view c.raise_version.new.pass) c.args.o (loaded_put v u c.args.o c.word_of-version.ensures.only) c.raise_version.ensures.only
+
+pub returns-then-version-eq1-clause-keeps : goal.returns-then-version-eq1-clause-keeps
+returns-then-version-eq1-clause-keeps c p word some_ few =
+    let a = c.args in
+    let n = slots (class_of (table_id a.table)) in
+    let x = held_words a.o (view c.word_of-version.new.pass) in
+    ap (λ (z : ContainerWords). entry_field n z.table p word) c.raise_version.ensures.raw
+    ∙ (get_or-set_other x.table (entry_offset n a.place 0) (entry_offset n p word) (entry_field n x.table a.place 0 + 1) 0 (λ e. absurd (omega (arith, e, some_, few)))
+    ∙ ap (λ (z : ContainerWords). entry_field n z.table p word) (loaded_held (view a.pass.now) (view c.word_of-version.new.pass) a.o c.word_of-version.ensures.only))
+
+pub returns-else-version-eq1-clause-keeps : goal.returns-else-version-eq1-clause-keeps
+returns-else-version-eq1-clause-keeps c p word some_ few =
+    let a = c.args in
+    ap (λ (z : ContainerWords). entry_field (slots (class_of (table_id a.table))) z.table p word) (loaded_held (view a.pass.now) (view c.word_of-version.new.pass) a.o c.word_of-version.ensures.only)

@@ -1,7 +1,11 @@
 use Rattle.std.proofs.Common.{ap, ◌∙◌}
 use Rattle.ft_trace.specs.declared.View.{View}
+use Rattle.ft_trace.specs.Addresses.{class_of, slots}
 use Rattle.ft_trace.specs.Boxes.{references_held}
+use Rattle.ft_trace.specs.Holds.{held_words}
+use Rattle.ft_trace.specs.Pictures.{entry_field}
 use Rattle.ft_bank.specs.Passes.{shape_of, view}
+use Rattle.ft_bank.specs.TableNames.{table_id}
 use Rattle.ft_merging.proofs.Ending.{closing_begins, closing_ends, closing_shut}
 use Rattle.ft_merging.proofs.closing.finish_entries.Goals as goal
 
@@ -44,3 +48,9 @@ pub returns-clause-references : goal.returns-clause-references
 returns-clause-references c b =
     ap (λ (y : View). references_held y.shape b y.log) c.stop_write.ensures.1
     ∙ (c.close_all.ensures.references b ∙ ap (λ (y : View). references_held y.shape b y.log) c.commit-number.ensures.did.1.1)
+
+pub returns-clause-keeps : goal.returns-clause-keeps
+returns-clause-keeps c p word some_ few =
+    let a = c.args in
+    let field = λ (z : View). entry_field (slots (class_of (table_id a.table))) (held_words a.o z).table p word in
+    ap field c.stop_write.ensures.1 ∙ (c.close_all.ensures.keeps p word some_ few ∙ ap field c.commit-number.ensures.did.1.1)

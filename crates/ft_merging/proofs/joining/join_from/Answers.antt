@@ -6,7 +6,7 @@ use Rattle.ft_trace.specs.Pictures.{ContainerWords}
 use Rattle.ft_trace.specs.ContainerStates.{ContainerState}
 use Rattle.ft_bank.specs.Passes.{shape_of, view}
 use Rattle.ft_bank.specs.Whole.{OnlyLoaded}
-use Rattle.ft_bank.proofs.KnownAfterWrites.{loaded_then, work_knows}
+use Rattle.ft_bank.proofs.KnownAfterWrites.{loaded_held, loaded_then, work_knows}
 use Rattle.ft_search.specs.Rounds.{kind_by}
 use Rattle.ft_search.proofs.Changing.{kind_is}
 use Rattle.ft_search.proofs.Spotting.{may_loaded}
@@ -23,6 +23,7 @@ use Rattle.ft_merging.proofs.JoinedCalls.{few_rows, joins_by, joins_later}
 use Rattle.ft_merging.proofs.JoinedSame.{known_cap}
 use Rattle.ft_merging.proofs.JoinedPairs.{source_known}
 use Rattle.ft_merging.proofs.JoinedReads.{Source, knows_loaded}
+use Rattle.ft_merging.proofs.SharedKeys.{shares_from}
 use Rattle.ft_merging.proofs.joining.join_from.Goals as goal
 use Rattle.ft_merging.proofs.joining.join_from.Goals.{After-own_table-old}
 
@@ -131,4 +132,12 @@ join_more-requires-clause-joins c =
 pub returns-clause-added : goal.returns-clause-added
 returns-clause-added c =
     let a = c.args in
-    joins_by (shape_of a.bank.now) a.o a.t a.called.now (view a.pass.now) (view c.own_table-old.new.pass) (view c.join_more.new.pass) c.join_more.result (all (goal.at.returns-clause-added c).After-own_table-old) c.join_more.ensures.added
+    let k = shape_of a.bank.now in
+    let v = view a.pass.now in
+    let u = view c.own_table-old.new.pass in
+    let w = view c.join_more.new.pass in
+    let l = all (goal.at.returns-clause-added c).After-own_table-old in
+    let r = c.requires.other in (
+      joins_by k a.o a.t a.called.now v u w c.join_more.result l c.join_more.ensures.added,
+      (λ dicts made. shares_from a.o a.t v u w (loaded_held v u a.t l) (read_same k a.t v u c.requires.pass.1 r.container r.locked l) (work_knows v u a.o l.work) (work_knows v u a.t l.work) (c.join_more.ensures.shares (sym c.requires.other_way ∙ dicts) made)),
+    )

@@ -3,7 +3,7 @@ use Rattle.ft_model.specs.declared.reply.Reply.TheVariants as reply
 use Rattle.ft_trace.specs.declared.View.{View}
 use Rattle.ft_trace.specs.Addresses.{class_of}
 use Rattle.ft_trace.specs.Boxes.{references_held}
-use Rattle.ft_trace.specs.Holds.{known_state}
+use Rattle.ft_trace.specs.Holds.{held_words, held_unboxed, known_state}
 use Rattle.ft_trace.specs.Kinds.{rows}
 use Rattle.ft_trace.specs.ContainerStates.{ContainerState, kind_in}
 use Rattle.ft_bank.specs.Passes.{shape_of, view}
@@ -19,6 +19,7 @@ use Rattle.ft_merging.proofs.Joined.{joined_finishes}
 use Rattle.ft_merging.proofs.JoinedCalls.{few_rows, made_here}
 use Rattle.ft_merging.proofs.JoinedRoom.{stays_table}
 use Rattle.ft_merging.proofs.JoinedStarts.{here_begins, here_room, here_table}
+use Rattle.ft_merging.proofs.SharedKeys.{shares_from}
 use Rattle.ft_merging.proofs.joining.join_here.Goals as goal
 use Rattle.ft_merging.proofs.joining.join_here.Goals.{After-start_write}
 
@@ -79,3 +80,9 @@ returns-clause-added c =
     (whole_write a.merge.now.o v u e.0 c.start_write.result begun e.1 a.called.now reply.Done c.join_table-number.result w changed may.keyed.even e.3 root)
     (refs_then v u w (λ b. ap (λ (z : View). references_held z.shape b z.log) begun) c.join_table-number.ensures.references)
     (whole_root a.merge.now.o v u e.0 c.start_write.result begun e.1 a.called.now reply.Done c.join_table-number.result w changed e.3 root)
+
+pub returns-clause-shares : goal.returns-clause-shares
+returns-clause-shares c dicts =
+    let m = c.args.merge.now in
+    let begun = c.start_write.ensures.1 in
+    shares_from m.o m.t (view c.args.pass.now) (view c.start_write.new.pass) (view c.join_table-number.new.pass) (ap (held_words m.t) begun) (ap (held_unboxed m.t) begun) (ap (known_state m.o) begun) (ap (known_state m.t) begun) (c.join_table-number.ensures.shares dicts)

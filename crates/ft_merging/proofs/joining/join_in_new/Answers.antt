@@ -14,6 +14,7 @@ use Rattle.ft_bank.proofs.KnownAfterWrites.{put_written, work_knows, written_the
 use Rattle.ft_bank.specs.Whole.{OnlyWritten}
 use Rattle.ft_search.specs.Rounds.{kind_by}
 use Rattle.ft_search.proofs.Changing.{kind_is}
+use Rattle.ft_search.proofs.Overs.{held_same}
 use Rattle.ft_new_keys.specs.KeyGrowth.{MayGrowKeyed}
 use Rattle.ft_new_keys.proofs.FinishedKeys.{since_root}
 use Rattle.ft_new_keys.proofs.Grown.{filled_has, grow_begins, grow_filled, grown_wrote, knows_filled, same_filled, words_filled}
@@ -24,11 +25,12 @@ use Rattle.ft_merging.specs.Merging.{MayMerge}
 use Rattle.ft_merging.specs.Internal.JoiningSteps.{IsJoining}
 use Rattle.ft_merging.proofs.Joined.{joined_finishes}
 use Rattle.ft_merging.proofs.JoinedCalls.{few_rows, joins_later, many_joined, new_room}
-use Rattle.ft_merging.proofs.JoinedNew.{new_begins, other_on}
+use Rattle.ft_merging.proofs.JoinedNew.{new_begins, other_on, others_on}
 use Rattle.ft_merging.proofs.JoinedPairs.{source_known}
 use Rattle.ft_merging.proofs.JoinedReads.{Source}
 use Rattle.ft_merging.proofs.JoinedRoom.{taken_table}
 use Rattle.ft_merging.proofs.Merged.{merge_later}
+use Rattle.ft_merging.proofs.SharedKeys.{shares_from}
 use Rattle.ft_merging.proofs.joining.join_in_new.Goals as goal
 use Rattle.ft_merging.proofs.joining.join_in_new.Goals.{After-move_entries, After-put_counts, After-words_are_of_one_content}
 
@@ -199,3 +201,32 @@ returns-clause-references c =
     let z = view c.put_counts.new.pass in
     let begun = refs_then v x y c.move_entries.ensures.only.references c.begin_in.ensures.references in
     refs_then v z (view c.join_table.new.pass) (refs_then v y z begun c.put_counts.ensures.references) c.join_table.ensures.references
+
+-- the pass holds no reference
+pub join_table-requires-clause-none : goal.join_table-requires-clause-none
+join_table-requires-clause-none c b =
+    let a = c.args in
+    let v = view a.pass.now in
+    let x = view c.move_entries.new.pass in
+    let y = view c.begin_in.new.pass in
+    let z = view c.put_counts.new.pass in
+    let all = refs_then v y z (refs_then v x y c.move_entries.ensures.only.references c.begin_in.ensures.references) c.put_counts.ensures.references in
+    held_same (shape_of a.bank.now) v z c.requires.pass.1 c.put_counts.ensures.pass.1 all b ∙ c.requires.may.boxes.none b
+
+pub returns-clause-shares : goal.returns-clause-shares
+returns-clause-shares c dicts =
+    let a = c.args in
+    let k = shape_of a.bank.now in
+    let m = a.merge.now in
+    let at = goal.at.returns-clause-shares c in
+    let f = at.After-move_entries in
+    let p = at.After-put_counts in
+    let v = view a.pass.now in
+    let x = view c.move_entries.new.pass in
+    let only = c.move_entries.ensures.only in
+    let words = others_on c.words_are_of_one_content.ensures.head (record { pairs = c.used_entries_follow_a_dict.ensures.first; elements = c.used_entries_follow_a_set.ensures.first }) k m.o a.way a.old a.new m.t m.table m.counts m.more x (view c.begin_in.new.pass) (view c.put_counts.new.pass) c.move_entries.ensures.pass.1 c.move_entries.new.pass.possible (merge f).two (grow f) (merge f).other (merge f).way (merge f).other_way
+    c.move_entries.ensures.moved (merge f).counts (merge f).more (cap f) (merge f).serials (row at.After-words_are_of_one_content) c.begin_in.ensures.begins c.begin_in.ensures.words (counted_only p) c.put_counts.ensures.words c.put_counts.ensures.writes c.put_counts.ensures.pass.1 c.put_counts.new.pass.possible in
+    shares_from m.o m.t v (view c.put_counts.new.pass) (view c.join_table.new.pass)
+    (words.0 ∙ words_filled k m.t (Some m.table) v x c.requires.pass.1 only c.requires.merge.other)
+    (words.1 ∙ (same_filled k m.t (Some m.table) v x c.requires.pass.1 only c.requires.merge.other).0)
+    (knows_on p m.o ∙ (same f).1) (knows_on p m.t ∙ other f) (c.join_table.ensures.shares dicts)

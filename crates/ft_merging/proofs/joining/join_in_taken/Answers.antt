@@ -1,6 +1,7 @@
-use Rattle.std.proofs.Common.{◌≡◌, ◌≢◌, ℕ, suc, Some, refl, sym, ap, ◌∙◌, subst}
+use Rattle.std.proofs.Common.{◌≡◌, ◌≢◌, ◌<◌, ℕ, suc, Some, refl, sym, ap, ◌∙◌, subst}
+use Rattle.ft_trace.specs.declared.Shape.{Shape}
 use Rattle.ft_model.specs.declared.reply.Reply.TheVariants as reply
-use Rattle.ft_trace.specs.Addresses.{class_of}
+use Rattle.ft_trace.specs.Addresses.{class_of, container_count}
 use Rattle.ft_trace.specs.Holds.{held_unboxed, known_state}
 use Rattle.ft_trace.specs.Pictures.{root_in}
 use Rattle.ft_trace.specs.ContainerStates.{changes}
@@ -9,6 +10,7 @@ use Rattle.ft_bank.specs.TableNames.{table_id, root_for}
 use Rattle.ft_bank.proofs.TableAddresses.{class_is}
 use Rattle.ft_bank.specs.Whole.{Wrote}
 use Rattle.ft_table_calls.specs.Adding.{Retires}
+use Rattle.ft_table_calls.proofs.GrowthMidst.{retired_knows}
 use Rattle.ft_table_calls.proofs.Rooting.{taken_out}
 use Rattle.ft_section.specs.declared.answers.Stamp.{Stamp}
 use Rattle.ft_search.specs.Rounds.{kind_by}
@@ -18,6 +20,7 @@ use Rattle.ft_new_keys.proofs.Taken.{tried_has, tried_knows, tried_may, tried_wo
 use Rattle.ft_merging.specs.Joining.{join_takes}
 use Rattle.ft_merging.proofs.JoinedCalls.{joins_later}
 use Rattle.ft_merging.proofs.Merged.{merge_later}
+use Rattle.ft_merging.proofs.SharedKeys.{shares_from, shares_to}
 use Rattle.ft_merging.proofs.joining.join_in_taken.Goals as goal
 use Rattle.ft_merging.proofs.joining.join_in_taken.Goals.{In-Taken}
 
@@ -116,3 +119,23 @@ returns-in-Taken-clause-added c =
         retired = subst (λ (n : ℕ). Retires n done (view c.retire_old.new.pass)) (sym (grow d).keyed.root ∙ sym (ap (λ (n : ℕ). root_in (held_unboxed n u)) at)) c.retire_old.ensures.retired;
       },
     )
+
+pub returns-in-Taken-clause-shares : goal.returns-in-Taken-clause-shares
+returns-in-Taken-clause-shares c dicts made =
+    let a = c.args in
+    let m = a.merge.now in
+    let v = view a.pass.now in
+    let u = view c.take.new.pass in
+    let done = view c.join_in_new-number.new.pass in
+    let r = c.requires.merge.other in
+    let d = (goal.at.returns-in-Taken-clause-shares c).In-Taken in
+    let words = c.in-Taken.ensures.keeps.held.words m.t (subst (λ (z : Shape). m.t < container_count z) (sym c.requires.pass.1) r.container) r.locked in
+    let last = retired_knows (root_for a.old) done (view c.retire_old.new.pass) c.retire_old.ensures.retired m.o in
+    shares_to m.o m.t v done (view c.retire_old.new.pass) last.0 last.2
+    (shares_from m.o m.t v u done words.0 words.2 (mine d).1 words.1 (c.join_in_new-number.ensures.shares dicts))
+
+pub returns-in-AllTaken-clause-shares : goal.returns-in-AllTaken-clause-shares
+returns-in-AllTaken-clause-shares c dicts made = absurd (let no = made.1 in cc)
+
+pub returns-in-Moved-clause-shares : goal.returns-in-Moved-clause-shares
+returns-in-Moved-clause-shares c dicts made = absurd (let no = made.1 in cc)

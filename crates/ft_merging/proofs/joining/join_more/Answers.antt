@@ -102,3 +102,12 @@ returns-in-None-clause-added c =
     let t = takes d c.class_wanted.result c.class_wanted.ensures.class ∙ c.in-None.is in
     let f = few d (omega (arith, m)) in
     subst (λ (z : Option ℕ × Bool). IsAdded (shape_of a.bank.now) z.0 z.1 a.called.now reply.Done (view a.pass.now) (view c.join_in_old.new.pass) c.join_in_old.result) (λ i. (sym t i, sym f i)) c.join_in_old.ensures.added
+
+pub returns-then-merge-most_keys-clause-shares : goal.returns-then-merge-most_keys-clause-shares
+returns-then-merge-most_keys-clause-shares c dicts made = absurd (let no = made.1 in cc)
+
+pub returns-in-Some-clause-shares : goal.returns-in-Some-clause-shares
+returns-in-Some-clause-shares c dicts made = c.join_in_taken.ensures.shares dicts made
+
+pub returns-in-None-clause-shares : goal.returns-in-None-clause-shares
+returns-in-None-clause-shares c dicts made = c.join_in_old.ensures.shares dicts made

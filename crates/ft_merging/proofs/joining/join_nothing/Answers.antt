@@ -1,4 +1,4 @@
-use Rattle.std.proofs.Common.{◌≡◌, false}
+use Rattle.std.proofs.Common.{◌≡◌, inr, false}
 use Rattle.ft_model.specs.TableUses.{passes_cap}
 use Rattle.ft_table_calls.specs.declared.adding.Added.TheVariants as added
 use Rattle.ft_trace.specs.Holds.{known_state}
@@ -21,3 +21,6 @@ returns-clause-added c =
     let n = c.write_nothing.ensures in
     joins_nothing (shape_of a.bank.now) a.o a.t a.called.now v (view c.write_nothing.new.pass) (added.Made c.written.result) c.requires.same (few (goal.at.returns-clause-added c).After-used_entries_follow_a_set)
     (made_here (shape_of a.bank.now) a.o a.called.now v (view c.write_nothing.new.pass) c.written.result c.write_nothing.result c.written.ensures c.requires.joins.changed n.wrote n.references n.root)
+
+pub returns-clause-shares : goal.returns-clause-shares
+returns-clause-shares c dicts key b fits named = inr (c.requires.equal dicts key b fits named)

@@ -8,7 +8,7 @@ use Rattle.ft_merging.proofs.JoinedReads.{knows_put}
 use Rattle.ft_merging.proofs.putting.join_all.Goals as goal
 
 pub loop-place-init : goal.loop-place-init
-loop-place-init c = record { pass = c.requires.pass; stack = refl; only = put_written c.args.o (view c.args.pass.now) (view c.args.pass.now) (put_same (view c.args.pass.now) c.args.o); joining = c.requires.joining; references = λ b. refl; more = omega arith; keeps = λ sets p w less few. refl }
+loop-place-init c = record { pass = c.requires.pass; stack = refl; only = put_written c.args.o (view c.args.pass.now) (view c.args.pass.now) (put_same (view c.args.pass.now) c.args.o); joining = c.requires.joining; references = λ b. refl; more = omega arith; keeps = λ sets p w less few. refl; shares = λ dicts p key b less. absurd (omega (arith, less)) }
 
 pub join_at-counts-requires-clause-other : goal.join_at-counts-requires-clause-other
 join_at-counts-requires-clause-other c =
@@ -47,4 +47,5 @@ loop-place-preserved c =
       references = λ b. e.references b ∙ i.references b;
       more = let m = i.more in let n = e.more in omega (arith, m, n);
       keeps = λ sets p w less few. let m = i.more in e.keeps sets p w (omega (arith, less, m)) few ∙ i.keeps sets p w less few;
+      shares = λ dicts. e.shares dicts (i.shares dicts);
     }

@@ -8,7 +8,7 @@ use Rattle.ft_bank.specs.TableNames.{table_id}
 use Rattle.ft_bank.specs.Whole.{OnlyWritten}
 use Rattle.ft_search.specs.Rounds.{kind_by}
 use Rattle.ft_merging.specs.Joining.{joined}
-use Rattle.ft_merging.specs.Internal.JoiningSteps.{IsJoining, KeepsBelow}
+use Rattle.ft_merging.specs.Internal.JoiningSteps.{IsJoining, KeepsBelow, SharesBelow}
 use Rattle.ft_merging.proofs.putting.join_all.Given as goal
 
 abbrev pub invariant-loop-place : goal.invariant-loop-place
@@ -20,4 +20,5 @@ invariant-loop-place l = record {
   references : SameReferences (view l.initial.pass) (view l.pass);
   more : l.fn.first.fill ≤ l.counts.fill;
   keeps : kind_by l.way ≡ kind.Set → KeepsBelow (table_id l.own) l.fn.first.fill (held_unboxed l.o (view l.initial.pass)) (held_unboxed l.o (view l.pass));
+  shares : kind_by l.way ≡ kind.Dict → SharesBelow l.o l.t l.table l.place (view l.pass);
 }

@@ -1,11 +1,13 @@
-use Rattle.std.proofs.Common.{◌≡◌, ◌<◌, ◌+◌, sym, subst, List, map, arith}
+use Rattle.std.proofs.Common.{◌≡◌, ℕ, ◌<◌, ◌+◌, sym, ap, ◌∙◌, subst, List, map, arith}
 use Rattle.ft_layout.specs.Words.{entry_words}
 use Rattle.ft_keys.specs.declared.words.Access.{Access}
 use Rattle.ft_keys.specs.TableChanges.{place_puts}
 use Rattle.ft_trace.specs.declared.Shape.{Shape}
 use Rattle.ft_trace.specs.Addresses.{container_count, class_of, slots}
 use Rattle.ft_trace.specs.ContainerStates.{kind_in}
+use Rattle.ft_trace.specs.Holds.{held_words}
 use Rattle.ft_trace.specs.Kinds.{rows, IsKeyed}
+use Rattle.ft_trace.specs.Pictures.{entry_field}
 use Rattle.ft_bank.specs.Passes.{shape_of, view}
 use Rattle.ft_bank.specs.TableNames.{table_id}
 use Rattle.ft_search.specs.declared.words.TableWords.{TableWords}
@@ -13,7 +15,7 @@ use Rattle.ft_search.proofs.WordPlaces.{mask_is, slots_is}
 use Rattle.ft_search.proofs.Running.{ran}
 use Rattle.ft_new_keys.proofs.Laid.{Laid, ran_laid, laid_same, laid_words}
 use Rattle.ft_new_keys.proofs.OldValues.{row_place}
-use Rattle.ft_new_keys.proofs.PlainCalls.{ArePlainCalls, place_plain}
+use Rattle.ft_new_keys.proofs.PlainCalls.{ArePlainCalls, laid_else, place_plain}
 use Rattle.ft_search.specs.TableWords.{access_act}
 use Rattle.ft_search.proofs.Keeping.{puts_keep}
 use Rattle.ft_new_keys.proofs.NewEntryPuts.{place_acts}
@@ -76,6 +78,14 @@ pub returns-clause-words : goal.returns-clause-words
 returns-clause-words c =
     let d = (goal.at.returns-clause-words c).After-place_at in
     laid_words c.args.words.now (place_puts c.args.slot c.args.place (entry_words c.args.pair.now)) c.place_at.new.words c.args.place (keyed d) (low d) c.requires.writes.0 c.requires.in_place (laid_is d) (are d)
+
+pub returns-clause-others : goal.returns-clause-others
+returns-clause-others c other word ne few =
+    let d = (goal.at.returns-clause-others c).After-place_at in
+    let s = c.args.words.now in
+    let n = slots (class_of (table_id s.table)) in
+    let calls = place_puts c.args.slot c.args.place (entry_words c.args.pair.now) in
+    ap (λ (l : List ℕ). entry_field n l other word) (laid_is d).table ∙ laid_else n c.args.place other word ne few calls (are d) (held_words s.o (view s.pass.now)).table
 
 pub returns-clause-values : goal.returns-clause-values
 returns-clause-values c =

@@ -1,5 +1,6 @@
-use Rattle.std.proofs.Common.{sym, ap}
+use Rattle.std.proofs.Common.{sym, ap, ◌∙◌}
 use Rattle.ft_trace.specs.declared.View.{View}
+use Rattle.ft_trace.specs.Pictures.{ContainerWords}
 use Rattle.ft_bank.specs.Passes.{view}
 use Rattle.ft_boxes.proofs.Steps.{keeps_then}
 use Rattle.ft_new_keys.proofs.NewEntryPuts.{boxes_keep}
@@ -16,3 +17,8 @@ returns-clause-values c =
     let three = c.put_block-3.ensures in
     keeps_then v a d (sym (ap (λ (z : View). z.shape) one.did.1)) one.boxes.references (boxes_keep v a c.args.pass.now.possible one.boxes)
     (keeps_then a b d (sym (ap (λ (z : View). z.shape) two.did.1)) two.boxes.references (boxes_keep a b c.put_block.new.pass.possible two.boxes) (boxes_keep b d c.put_block-2.new.pass.possible three.boxes))
+
+pub returns-clause-raw : goal.returns-clause-raw
+returns-clause-raw c =
+    ap (λ (x : ContainerWords). x.table) c.put_block-3.ensures.held
+    ∙ (ap (λ (x : ContainerWords). x.table) c.put_block-2.ensures.held ∙ ap (λ (x : ContainerWords). x.table) c.put_block.ensures.held)

@@ -1,12 +1,13 @@
-use Rattle.std.proofs.Common.{rules, ◌≡◌, ◌+◌, ◌*◌, sym, ap, ◌∙◌, subst, arith}
+use Rattle.std.proofs.Common.{rules, ◌≡◌, ◌+◌, ◌*◌, sym, ap, ◌∙◌, subst, arith, get_or-set_other}
 use Rattle.std.specs.Prelude.{slice_index}
 use Rattle.ft_trace.specs.Addresses.{class_of, slots}
 use Rattle.ft_trace.specs.Holds.{held_words, held_unboxed}
-use Rattle.ft_trace.specs.Pictures.{entry_offset}
+use Rattle.ft_trace.specs.Pictures.{ContainerWords, entry_field, entry_offset}
 use Rattle.ft_bank.specs.Passes.{shape_of, view}
 use Rattle.ft_bank.specs.TableNames.{table_id}
 use Rattle.ft_bank.specs.Whole.{OnlyWritten}
 use Rattle.ft_bank.proofs.KnownAfterWrites.{put_written, written_then}
+use Rattle.ft_search.specs.OneEntryWrites.{KeepsOtherEntries}
 use Rattle.ft_search.proofs.WordPlaces.{slots_is}
 use Rattle.ft_search.proofs.Boxing.{table_of}
 use Rattle.ft_search.proofs.Puts.{few_slots}
@@ -106,3 +107,16 @@ returns-clause-values c =
     let unboxed = c.put_unboxed.ensures in
     keeps_then v r _ (sym raised.only.work.pass.shape) raised.references (own_keeps v r raised.own)
     (keeps_then r p _ (sym unboxed.only.work.pass.shape) unboxed.references unboxed.values (subst (λ q. KeepsValues p (view q)) same c.place_in.ensures.values))
+
+pub returns-clause-others : goal.returns-clause-others
+returns-clause-others c other word ne few =
+    let a = c.args in
+    let t = table_id a.table in
+    let n = slots (class_of (table_id a.table)) in
+    let x = held_words a.o (view a.pass.now) in
+    let at = word_is (goal.at.returns-clause-others c).After-mask_of-mask in
+    let same : c.place_in.new.words.pass.now ≡ c.pass-1.given.0 = search rules in
+    subst (λ p. KeepsOtherEntries a.o t a.place (view c.put_unboxed.new.pass) (view p)) same c.place_in.ensures.others other word ne few
+    ∙ (c.put_unboxed.ensures.stands (entry_offset n other word) (λ e. ne (omega (arith, e, at, few))) (λ e. ne (omega (arith, e, at, few)))
+    ∙ (ap (λ (z : ContainerWords). entry_field n z.table other word) c.raise_version.ensures.raw
+    ∙ get_or-set_other x.table (entry_offset n a.place 0) (entry_offset n other word) (entry_field n x.table a.place 0 + 1) 0 (λ e. ne (omega (arith, e, few)))))

@@ -7,9 +7,9 @@ use Rattle.ft_model.specs.Worlds.{serial_of, set_of}
 use Rattle.ft_trace.specs.Acts.{has_lock}
 use Rattle.ft_trace.specs.Addresses.{class_of}
 use Rattle.ft_trace.specs.Holds.{held_words, held_unboxed, in_hand, known_state}
-use Rattle.ft_trace.specs.Kinds.{rows}
+use Rattle.ft_trace.specs.Kinds.{rows, IsKeyed}
 use Rattle.ft_trace.specs.Pictures.{ContainerWords, root_in}
-use Rattle.ft_trace.specs.ContainerStates.{ContainerState}
+use Rattle.ft_trace.specs.ContainerStates.{ContainerState, kind_in}
 use Rattle.ft_bank.specs.Passes.{shape_of, view}
 use Rattle.ft_bank.specs.TableNames.{table_id, root_for}
 use Rattle.ft_bank.specs.Whole.{Wrote}
@@ -27,10 +27,11 @@ use Rattle.ft_new_keys.proofs.Taken.{tried_has, tried_knows, tried_may, tried_wo
 use Rattle.ft_merging.specs.Parting.{parted}
 use Rattle.ft_merging.proofs.ThinningEnds.{is_set}
 use Rattle.ft_replacing.specs.Replacing.{Replaces}
+use Rattle.ft_replacing.proofs.PlainFills.{plain_filled, plain_others}
 use Rattle.ft_replacing.proofs.Replaced.{replaces_later}
 use Rattle.ft_parting.proofs.PartedSets.{part_few, part_room, parted_next, parts_replaces}
 use Rattle.ft_parting.proofs.parting.part_in_taken.Goals as goal
-use Rattle.ft_parting.proofs.parting.part_in_taken.Goals.{After-take, In-Taken}
+use Rattle.ft_parting.proofs.parting.part_in_taken.Goals.{After-take, In-Taken, Start}
 
 -- ---- once it was taken
 
@@ -127,6 +128,21 @@ overflow_add-next c =
     let few = part_few (known_state a.merge.now.o v).content (known_state a.merge.now.t v).content (set_of (known_state a.merge.now.o v).content) a.merge.now.more is c.requires.merge.more c.requires.few in
     omega (arith, n, s, few)
 
+keyed_s : (c : Start) → IsKeyed (kind_in (shape_of c.args.bank.now).starts c.args.merge.now.o)
+keyed_s c = subst IsKeyed (sym c.requires.merge.way) tt
+
+pub swap_table-number-requires-clause-named : goal.swap_table-number-requires-clause-named
+swap_table-number-requires-clause-named c =
+    let a = c.args in
+    let at = goal.at.swap_table-number-requires-clause-named c in
+    let k = shape_of a.bank.now in
+    let s = words_s at.In-Taken in
+    let t = words_t at.In-Taken in
+    let x = view c.fill_parted.new.pass in
+    let v = view a.pass.now in
+    plain_others k a.merge.now.o (table_id c.in-Taken.new) (content.Set (parted (known_state a.merge.now.o v).content (known_state a.merge.now.t v).content)) x c.fill_parted.ensures.pass.1 (keyed_s at.Start) (sym c.requires.merge.way)
+    (subst (λ (z : ContainerState × ContainerState). IsFilledWith k.texts (class_of (table_id c.in-Taken.new)) (content.Set (parted z.0.content z.1.content)) (in_hand (table_id c.in-Taken.new) x)) (λ i. (s.1 i, t.1 i)) c.fill_parted.ensures.filled)
+
 pub swap_table-number-requires-clause-gets : goal.swap_table-number-requires-clause-gets
 swap_table-number-requires-clause-gets c =
     let a = c.args in
@@ -147,7 +163,8 @@ swap_table-number-requires-clause-gets c =
       sym c.requires.merge.way,
       c.requires.count,
       sym next,
-      subst (λ (z : ContainerState × ContainerState). IsFilledWith (shape_of a.bank.now).texts class (content.Set (parted z.0.content z.1.content)) (in_hand (table_id c.in-Taken.new) x)) (λ i. (s.1 i, t.1 i)) c.fill_parted.ensures.filled,
+      plain_filled (shape_of a.bank.now) a.merge.now.o (table_id c.in-Taken.new) (content.Set all) x c.fill_parted.ensures.pass.1 (keyed_s at.Start) (sym c.requires.merge.way)
+          (subst (λ (z : ContainerState × ContainerState). IsFilledWith (shape_of a.bank.now).texts class (content.Set (parted z.0.content z.1.content)) (in_hand (table_id c.in-Taken.new) x)) (λ i. (s.1 i, t.1 i)) c.fill_parted.ensures.filled),
       subst (λ (z : ℕ). Replaces a.merge.now.o a.called.now (content.Set all) (Some z) x) (sym (class_named at.In-Taken))
           (replaces_later a.merge.now.o a.called.now (content.Set all) (Some a.class) v x before locks (parts_replaces a.merge.now.o a.merge.now.t a.called.now v a.class c.requires.parts c.requires.takes c.requires.few)),
     )

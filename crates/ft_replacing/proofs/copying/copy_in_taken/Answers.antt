@@ -1,4 +1,4 @@
-use Rattle.std.proofs.Common.{◌≡◌, ◌≢◌, ◌≤◌, ◌+◌, ℕ, suc, ◌∷◌, Some, refl, sym, ap, ◌∙◌, subst, arith}
+use Rattle.std.proofs.Common.{◌≡◌, ◌≢◌, ◌<◌, ◌≤◌, ◌+◌, ℕ, suc, ◌∷◌, List, Some, refl, sym, ap, ◌∙◌, subst, arith}
 use Rattle.ft_model.specs.declared.content.Content.{Content}
 use Rattle.ft_model.specs.declared.content.Content.TheVariants as content
 use Rattle.ft_model.specs.declared.reply.Reply.TheVariants as reply
@@ -10,8 +10,9 @@ use Rattle.ft_model.specs.Worlds.{length_of, serial_of}
 use Rattle.ft_model.proofs.Copies.{length-pairs_from}
 use Rattle.ft_layout.specs.Containers.{StandsAs}
 use Rattle.ft_trace.specs.Acts.{has_lock}
-use Rattle.ft_trace.specs.Addresses.{class_of}
-use Rattle.ft_trace.specs.Holds.{held_words, held_unboxed, known_state}
+use Rattle.ft_trace.specs.declared.Shape.{Shape}
+use Rattle.ft_trace.specs.Addresses.{class_of, container_count}
+use Rattle.ft_trace.specs.Holds.{held_words, held_unboxed, in_hand, known_state}
 use Rattle.ft_trace.specs.Kinds.{rows}
 use Rattle.ft_trace.specs.Pictures.{ContainerWords, root_in}
 use Rattle.ft_trace.specs.ContainerStates.{ContainerState}
@@ -20,7 +21,9 @@ use Rattle.ft_bank.specs.TableNames.{table_id, root_for}
 use Rattle.ft_bank.specs.WriteSteps.{MayHave}
 use Rattle.ft_bank.proofs.TableAddresses.{class_is}
 use Rattle.ft_table_calls.specs.Adding.{Retires}
+use Rattle.ft_table_calls.proofs.GrowthMidst.{retired_knows}
 use Rattle.ft_table_calls.proofs.Rooting.{filled_wrote, taken_out}
+use Rattle.ft_table_calls.proofs.Unmade.{not_made}
 use Rattle.ft_search.proofs.Changing.{kind_is}
 use Rattle.ft_new_keys.specs.KeyGrowth.{MayGrowKeyed}
 use Rattle.ft_new_keys.specs.Placing.{AreCounts}
@@ -28,6 +31,8 @@ use Rattle.ft_new_keys.proofs.Grown.{filled_has, grow_filled, same_filled, words
 use Rattle.ft_new_keys.proofs.Keyed.{counts_known, fresh_other}
 use Rattle.ft_new_keys.proofs.Taken.{tried_has, tried_knows, tried_may, tried_words}
 use Rattle.ft_replacing.specs.Replacing.{Replaces, copied}
+use Rattle.ft_replacing.specs.Sharing.{SharesEntries}
+use Rattle.ft_replacing.proofs.CopiedBoxes.{copy_shares}
 use Rattle.ft_replacing.proofs.Replaced.{copy_room, dict_of_kind, pairs_few, replaces_later}
 use Rattle.ft_replacing.proofs.copying.copy_in_taken.Goals as goal
 use Rattle.ft_replacing.proofs.copying.copy_in_taken.Goals.{After-take, In-Taken, Start}
@@ -82,24 +87,24 @@ other c =
 class_named : (c : In-Taken) → class_of (table_id c.in-Taken.table) ≡ c.args.class
 class_named c = let x = c.in-Taken.ensures.did.6 in class_is c.in-Taken.table x.0.2 ∙ x.1
 
-pub fill_copy-requires-clause-keyed : goal.fill_copy-requires-clause-keyed
-fill_copy-requires-clause-keyed c =
+pub fill_for-requires-clause-keyed : goal.fill_for-requires-clause-keyed
+fill_for-requires-clause-keyed c =
     let a = c.args in
     let e = c.in-Taken.ensures in
     tried_knows _ (view a.pass.now) (view c.take.new.pass) e.same e.keeps (shape_of a.bank.now) a.d a.from c.requires.pass.1 c.requires.keyed
 
-pub fill_copy-requires-clause-counts : goal.fill_copy-requires-clause-counts
-fill_copy-requires-clause-counts c = subst (λ (z : ContainerWords). AreCounts z.block c.args.counts) (sym (words_d (goal.at.fill_copy-requires-clause-counts c).In-Taken).0) c.requires.counts
+pub fill_for-requires-clause-counts : goal.fill_for-requires-clause-counts
+fill_for-requires-clause-counts c = subst (λ (z : ContainerWords). AreCounts z.block c.args.counts) (sym (words_d (goal.at.fill_for-requires-clause-counts c).In-Taken).0) c.requires.counts
 
-pub fill_copy-requires-clause-table : goal.fill_copy-requires-clause-table
-fill_copy-requires-clause-table c = c.in-Taken.ensures.did.6.0
+pub fill_for-requires-clause-table : goal.fill_for-requires-clause-table
+fill_for-requires-clause-table c = c.in-Taken.ensures.did.6.0
 
-pub fill_copy-requires-clause-fresh : goal.fill_copy-requires-clause-fresh
-fill_copy-requires-clause-fresh c = c.in-Taken.ensures.did.6.3
+pub fill_for-requires-clause-fresh : goal.fill_for-requires-clause-fresh
+fill_for-requires-clause-fresh c = c.in-Taken.ensures.did.6.3
 
-pub fill_copy-requires-clause-room : goal.fill_copy-requires-clause-room
-fill_copy-requires-clause-room c =
-    let p = goal.at.fill_copy-requires-clause-room c in
+pub fill_for-requires-clause-room : goal.fill_for-requires-clause-room
+fill_for-requires-clause-room c =
+    let p = goal.at.fill_for-requires-clause-room c in
     let n = count_is p.After-take in
     let few = few_is p.Start in
     subst (λ (z : ℕ). c.args.counts.count ≤ rows kind.Dict z) (sym (class_named p.In-Taken))
@@ -111,13 +116,13 @@ pub swap_table-number-requires-clause-may : goal.swap_table-number-requires-clau
 swap_table-number-requires-clause-may c =
     let a = c.args in
     let g = grow (goal.at.swap_table-number-requires-clause-may c).In-Taken in
-    grow_filled (shape_of a.bank.now) a.e a.old c.in-Taken.table (view c.take.new.pass) (view c.fill_copy.new.pass) (c.in-Taken.ensures.same.shape ∙ c.requires.pass.1) c.fill_copy.ensures.only g
+    grow_filled (shape_of a.bank.now) a.e a.old c.in-Taken.table (view c.take.new.pass) (view c.fill_for.new.pass) (c.in-Taken.ensures.same.shape ∙ c.requires.pass.1) c.fill_for.ensures.only g
 
 pub swap_table-number-requires-clause-other : goal.swap_table-number-requires-clause-other
 swap_table-number-requires-clause-other c =
     let a = c.args in
     let p = (goal.at.swap_table-number-requires-clause-other c).In-Taken in
-    let same = same_filled (shape_of a.bank.now) a.e a.old (view c.take.new.pass) (view c.fill_copy.new.pass) (c.in-Taken.ensures.same.shape ∙ c.requires.pass.1) c.fill_copy.ensures.only (grow p).keyed in
+    let same = same_filled (shape_of a.bank.now) a.e a.old (view c.take.new.pass) (view c.fill_for.new.pass) (c.in-Taken.ensures.same.shape ∙ c.requires.pass.1) c.fill_for.ensures.only (grow p).keyed in
     subst (λ (z : ContainerWords). root_in z ≢ suc (table_id c.in-Taken.table)) (sym same.0) (other p)
 
 pub swap_table-number-requires-clause-gets : goal.swap_table-number-requires-clause-gets
@@ -127,7 +132,7 @@ swap_table-number-requires-clause-gets c =
     let k = shape_of a.bank.now in
     let v = view a.pass.now in
     let u = view c.take.new.pass in
-    let x = view c.fill_copy.new.pass in
+    let x = view c.fill_for.new.pass in
     let e = c.in-Taken.ensures in
     let class = class_of (table_id c.in-Taken.table) in
     let pairs = pairs_of at.Start in
@@ -136,13 +141,13 @@ swap_table-number-requires-clause-gets c =
     let n : a.counts.count ≡ length_of (content.Dict pairs.0) = count_is at.After-take ∙ ap length_of pairs.1 in
     let next : given.0.next ≡ a.next = sym (c.requires.next ∙ ap serial_of given.1) in
     let left : copied (known_state a.e v).content (known_state a.d v).content ≡ content.Dict (dict_copy given.0 pairs.0.pairs) = (λ i. copied (given.1 i) (pairs.1 i)) in
-    let before : (found : StoredWorld) → MayHave x found → MayHave v found = λ found has. tried_has _ v u e.same e.keeps found (filled_has u x c.fill_copy.ensures.only found has) in
-    let locks : (p : ℕ) → has_lock p x.log ≡ has_lock p v.log = λ p. c.fill_copy.ensures.only.work.pass.locks p ∙ e.same.locks p in (
+    let before : (found : StoredWorld) → MayHave x found → MayHave v found = λ found has. tried_has _ v u e.same e.keeps found (filled_has u x c.fill_for.ensures.only found has) in
+    let locks : (p : ℕ) → has_lock p x.log ≡ has_lock p v.log = λ p. c.fill_for.ensures.only.work.pass.locks p ∙ e.same.locks p in (
       content.Dict (dict_copy given.0 pairs.0.pairs),
       sym c.requires.other_dict,
       n ∙ sym long,
       (λ i. sym next i + n i),
-      c.fill_copy.ensures.filled pairs.0 given.0 (ap (λ (z : ContainerState). z.content) (words_d at.In-Taken).1 ∙ pairs.1) next,
+      c.fill_for.ensures.filled pairs.0 given.0 (ap (λ (z : ContainerState). z.content) (words_d at.In-Taken).1 ∙ pairs.1) next,
       subst (λ (z : Content × ℕ). Replaces a.e a.called.now z.0 (Some z.1) x) (λ i. (left i, sym (class_named at.In-Taken) i))
           (replaces_later a.e a.called.now (copied (known_state a.e v).content (known_state a.d v).content) (Some a.class) v x before locks c.requires.replaces),
     )
@@ -151,9 +156,9 @@ pub retire_old-requires-clause-out : goal.retire_old-requires-clause-out
 retire_old-requires-clause-out c t is =
     let a = c.args in
     let p = (goal.at.retire_old-requires-clause-out c).In-Taken in
-    let x = view c.fill_copy.new.pass in
+    let x = view c.fill_for.new.pass in
     let w = view c.swap_table-number.new.pass in
-    let same = same_filled (shape_of a.bank.now) a.e a.old (view c.take.new.pass) x (c.in-Taken.ensures.same.shape ∙ c.requires.pass.1) c.fill_copy.ensures.only (grow p).keyed in
+    let same = same_filled (shape_of a.bank.now) a.e a.old (view c.take.new.pass) x (c.in-Taken.ensures.same.shape ∙ c.requires.pass.1) c.fill_for.ensures.only (grow p).keyed in
     let ends = c.swap_table-number.ensures in
     let at = sym c.requires.replaces.changed in
     let root : root_in (held_unboxed a.e (view c.take.new.pass)) ≡ suc (table_id t) = (grow p).keyed.root ∙ ap root_for is in
@@ -175,7 +180,7 @@ returns-in-Taken-clause-added c =
     let a = c.args in
     let p = (goal.at.returns-in-Taken-clause-added c).In-Taken in
     let u = view c.take.new.pass in
-    let x = view c.fill_copy.new.pass in
+    let x = view c.fill_for.new.pass in
     let done = view c.swap_table-number.new.pass in
     let e = c.in-Taken.ensures in
     let at = c.requires.replaces.changed in
@@ -188,9 +193,37 @@ returns-in-Taken-clause-added c =
         tried = record { mid = e.did.0; freed = e.did.1; acts = e.did.2; collected = e.did.3; did = e.did.4; taking = e.did.5; has = e.did.6; floor = e.floor; same = e.same; keeps = e.keeps; hands = e.hands };
         other = subst (λ (n : ℕ). root_in (held_unboxed n u) ≢ suc (table_id c.in-Taken.table)) (sym at) (other p);
         done = done;
-        wrote = filled_wrote a.called.now reply.Done c.swap_table-number.result u x done c.fill_copy.ensures.only (subst (λ (n : ℕ). held_words n x ≡ held_words n u) (sym at) (words_filled (shape_of a.bank.now) a.e a.old u x (e.same.shape ∙ c.requires.pass.1) c.fill_copy.ensures.only (grow p).keyed)) w.wrote;
+        wrote = filled_wrote a.called.now reply.Done c.swap_table-number.result u x done c.fill_for.ensures.only (subst (λ (n : ℕ). held_words n x ≡ held_words n u) (sym at) (words_filled (shape_of a.bank.now) a.e a.old u x (e.same.shape ∙ c.requires.pass.1) c.fill_for.ensures.only (grow p).keyed)) w.wrote;
         root = subst (λ (n : ℕ). root_in (held_unboxed n done) ≡ suc (table_id c.in-Taken.table)) (sym at) w.root;
-        references = λ b. w.references b ∙ c.fill_copy.ensures.only.references b;
+        references = λ b. w.references b ∙ c.fill_for.ensures.only.references b;
         retired = subst (λ (n : ℕ). Retires n done (view c.retire_old.new.pass)) (sym (grow p).keyed.root ∙ sym (ap (λ (n : ℕ). root_in (held_unboxed n u)) at)) c.retire_old.ensures.retired;
       },
     )
+
+-- ---- the boxes
+
+pub swap_table-number-requires-clause-named : goal.swap_table-number-requires-clause-named
+swap_table-number-requires-clause-named c = c.fill_for.ensures.named
+
+pub returns-in-Taken-clause-shares : goal.returns-in-Taken-clause-shares
+returns-in-Taken-clause-shares c made =
+    let a = c.args in
+    let k = shape_of a.bank.now in
+    let v = view a.pass.now in
+    let u = view c.take.new.pass in
+    let x = view c.fill_for.new.pass in
+    let done = view c.swap_table-number.new.pass in
+    let w = view c.retire_old.new.pass in
+    let e = c.in-Taken.ensures in
+    let t = table_id c.in-Taken.table in
+    let retired = (retired_knows _ done w c.retire_old.ensures.retired a.e).0 in
+    let words_d : held_words a.d u ≡ held_words a.d v = (e.keeps.held.words a.d (subst (λ (z : Shape). a.d < container_count z) (sym c.requires.pass.1) c.requires.keyed.container) c.requires.keyed.locked).0 in
+    let words_e : in_hand t x ≡ (held_words a.e w).table = sym c.swap_table-number.ensures.raw ∙ ap (λ (z : ContainerWords). z.table) (sym retired) in
+    copy_shares k a.d a.e a.next a.from t v w c.requires.keyed.root (ap root_in retired ∙ c.swap_table-number.ensures.root) c.requires.next
+    (λ own is other. subst (λ (z : ContainerWords × List ℕ). SharesEntries k.texts a.next (class_of (table_id own)) z.0.table (class_of t) z.1) (λ i. (words_d i, words_e i)) (c.fill_for.ensures.shares own is other))
+
+pub returns-in-AllTaken-clause-shares : goal.returns-in-AllTaken-clause-shares
+returns-in-AllTaken-clause-shares c made = not_made _ refl made
+
+pub returns-in-Moved-clause-shares : goal.returns-in-Moved-clause-shares
+returns-in-Moved-clause-shares c made = not_made _ refl made

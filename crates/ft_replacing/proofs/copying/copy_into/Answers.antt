@@ -9,14 +9,15 @@ use Rattle.ft_layout.specs.Containers.{StandsAs}
 use Rattle.ft_trace.specs.declared.Shape.{Shape}
 use Rattle.ft_trace.specs.declared.View.{View}
 use Rattle.ft_trace.specs.Addresses.{container_count}
-use Rattle.ft_trace.specs.Holds.{held_unboxed, known_state}
+use Rattle.ft_trace.specs.Holds.{held_unboxed, held_words, known_state}
 use Rattle.ft_trace.specs.Pictures.{ContainerWords, root_in}
 use Rattle.ft_trace.specs.ContainerStates.{ContainerState}
 use Rattle.ft_bank.specs.declared.table.Table.{Table}
 use Rattle.ft_bank.specs.Passes.{shape_of, view}
 use Rattle.ft_bank.specs.Whole.{OnlyLoaded}
 use Rattle.ft_bank.proofs.ShownReplies.{serials_have_room}
-use Rattle.ft_bank.proofs.KnownAfterWrites.{loaded_then, work_knows}
+use Rattle.ft_bank.proofs.KnownAfterWrites.{loaded_held, loaded_then, work_knows}
+use Rattle.ft_table_calls.proofs.GrowthMidst.{retired_knows}
 use Rattle.ft_table_calls.proofs.Rooting.{loaded_filled}
 use Rattle.ft_table_calls.specs.declared.adding.Added.TheVariants as added
 use Rattle.ft_search.specs.OneEntryWrites.{MayWriteEntries}
@@ -29,6 +30,7 @@ use Rattle.ft_new_keys.proofs.Grown.{filled_has}
 use Rattle.ft_new_keys.proofs.Keyed.{counts_known}
 use Rattle.ft_new_keys.proofs.Present.{may_add}
 use Rattle.ft_replacing.specs.Replacing.{IsReplaced, Replaces, copied}
+use Rattle.ft_replacing.proofs.CopiedBoxes.{shares_before}
 use Rattle.ft_replacing.proofs.Replaced.{copy_clears, dict_of_kind, pairs_few, replaces_later}
 use Rattle.ft_replacing.proofs.copying.copy_into.Goals as goal
 use Rattle.ft_replacing.proofs.copying.copy_into.Goals.{After-read_counts-counts, After-read_counts-next, After-root_table-old}
@@ -235,3 +237,22 @@ returns-in-None-clause-replaced c =
     subst (λ (z : Option ℕ). IsReplaced (shape_of a.bank.now) z a.called.now (view a.pass.now) (view c.clear_keyed.new.pass) (added.Made c.clear_keyed.result))
     (takes_as p None (sym c.taken_by_copy.ensures.class ∙ c.in-None.is))
     (x.0, (x.1.0, loaded_then (view a.pass.now) (view c.read_counts-next.new.pass) x.1.0 (only_last p) x.1.1, x.1.2))
+
+-- ---- the boxes
+
+pub returns-in-Some-clause-shares : goal.returns-in-Some-clause-shares
+returns-in-Some-clause-shares c made =
+    let a = c.args in
+    let p = (goal.at.returns-in-Some-clause-shares c).After-read_counts-next in
+    let v = view a.pass.now in
+    let u = view c.read_counts-next.new.pass in
+    shares_before (shape_of a.bank.now) a.d a.e v u (view c.copy_in_taken.new.pass) (loaded_held v u a.d (only_last p)) (known_last p a.e) (c.copy_in_taken.ensures.shares made)
+
+pub returns-in-None-clause-shares : goal.returns-in-None-clause-shares
+returns-in-None-clause-shares c made s t other has_s has_t =
+    let a = c.args in
+    let g = c.clear_keyed.ensures.cleared.1.2 in
+    let w = view c.clear_keyed.new.pass in
+    let done : root_in (held_words a.e g.done) ≡ 0 = subst (λ (n : ℕ). root_in (held_words n g.done) ≡ 0) c.requires.replaces.changed g.root in
+    let now : root_in (held_words a.e w) ≡ 0 = ap root_in (retired_knows _ g.done w g.retired a.e).0 ∙ done in
+    absurd (omega (arith, now, has_t))

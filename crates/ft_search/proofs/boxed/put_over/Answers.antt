@@ -12,7 +12,7 @@ use Rattle.ft_bank.specs.Passes.{shape_of, view}
 use Rattle.ft_bank.specs.TableNames.{table_id}
 use Rattle.ft_bank.specs.Series.{noted_all}
 use Rattle.ft_bank.specs.Whole.{OnlyLoaded}
-use Rattle.ft_search.proofs.Overs.{value_inside, word_inside, table_loaded, open_as, still_unboxed, here_open, here_writes, same_writes, same_raw, same_refs, same_words, both_writes, both_raw, both_refs, both_words, over_only, box_settled, box_held, box_is, drop_only, drop_refs, drop_writes, drop_raw, drop_words}
+use Rattle.ft_search.proofs.Overs.{value_inside, word_inside, table_loaded, open_as, still_unboxed, here_open, here_writes, same_writes, same_raw, same_stands, same_refs, same_words, both_writes, both_raw, both_stands, both_refs, both_words, over_only, box_settled, box_held, box_is, drop_only, drop_refs, drop_writes, drop_raw, drop_stands, drop_words}
 use Rattle.ft_search.proofs.ValueLoads.{kind_load, kind_found, both_load, kind_stays, payload_found}
 use Rattle.ft_search.proofs.Owning.{own_loaded, reads_loaded}
 use Rattle.ft_boxes.specs.References.{KeepsValues}
@@ -115,6 +115,11 @@ returns-then-kind-ne-BOX_KIND-clause-raw c =
     let d = (goal.at.returns-then-kind-ne-BOX_KIND-clause-raw c).After-read_word-old in
     same_raw (shape_of c.args.bank.now) c.args.o c.args.table c.args.word c.args.kind c.args.payload (view c.args.pass.now) (view c.read_word-old.new.pass) (view c.put_payload.new.pass) c.requires.pass.1 c.requires.writes c.requires.open (load_old d) c.requires.own (reads_loaded (view c.args.pass.now) (view c.read_word-old.new.pass) c.args.kind c.args.payload c.args.pass.now.possible c.requires.own (load_old d)) c.put_payload.ensures.only c.if-kind-ne-BOX_KIND.true (sym c.if-old-kind.true ∙ old_is d) c.put_payload.ensures.held
 
+pub returns-then-kind-ne-BOX_KIND-clause-stands : goal.returns-then-kind-ne-BOX_KIND-clause-stands
+returns-then-kind-ne-BOX_KIND-clause-stands c =
+    let d = (goal.at.returns-then-kind-ne-BOX_KIND-clause-stands c).After-read_word-old in
+    same_stands (shape_of c.args.bank.now) c.args.o c.args.table c.args.word c.args.kind c.args.payload (view c.args.pass.now) (view c.read_word-old.new.pass) (view c.put_payload.new.pass) c.requires.pass.1 c.requires.writes c.requires.open (load_old d) c.requires.own (reads_loaded (view c.args.pass.now) (view c.read_word-old.new.pass) c.args.kind c.args.payload c.args.pass.now.possible c.requires.own (load_old d)) c.put_payload.ensures.only c.if-kind-ne-BOX_KIND.true (sym c.if-old-kind.true ∙ old_is d) c.put_payload.ensures.held
+
 pub returns-then-kind-ne-BOX_KIND-clause-words : goal.returns-then-kind-ne-BOX_KIND-clause-words
 returns-then-kind-ne-BOX_KIND-clause-words c =
     let d = (goal.at.returns-then-kind-ne-BOX_KIND-clause-words c).After-read_word-old in
@@ -180,6 +185,11 @@ returns-then-old-ne-BOX_KIND-clause-raw c =
     let d = (goal.at.returns-then-old-ne-BOX_KIND-clause-raw c).After-read_word-named in
     both_raw (shape_of c.args.bank.now) c.args.o c.args.table c.args.word c.args.kind c.args.payload (view c.args.pass.now) (view c.read_word-named.new.pass) (view c.put_value.new.pass) c.requires.pass.1 c.requires.writes c.requires.open (load_named d) c.requires.own (reads_loaded (view c.args.pass.now) (view c.read_word-named.new.pass) c.args.kind c.args.payload c.args.pass.now.possible c.requires.own (load_named d)) c.put_value.ensures.only c.put_value.ensures.held c.put_value.ensures.unboxed c.put_value.ensures.references
 
+pub returns-then-old-ne-BOX_KIND-clause-stands : goal.returns-then-old-ne-BOX_KIND-clause-stands
+returns-then-old-ne-BOX_KIND-clause-stands c =
+    let d = (goal.at.returns-then-old-ne-BOX_KIND-clause-stands c).After-read_word-named in
+    both_stands (shape_of c.args.bank.now) c.args.o c.args.table c.args.word c.args.kind c.args.payload (view c.args.pass.now) (view c.read_word-named.new.pass) (view c.put_value.new.pass) c.requires.pass.1 c.requires.writes c.requires.open (load_named d) c.requires.own (reads_loaded (view c.args.pass.now) (view c.read_word-named.new.pass) c.args.kind c.args.payload c.args.pass.now.possible c.requires.own (load_named d)) c.put_value.ensures.only c.put_value.ensures.held c.put_value.ensures.unboxed c.put_value.ensures.references
+
 pub returns-then-old-ne-BOX_KIND-clause-words : goal.returns-then-old-ne-BOX_KIND-clause-words
 returns-then-old-ne-BOX_KIND-clause-words c =
     let d = (goal.at.returns-then-old-ne-BOX_KIND-clause-words c).After-read_word-named in
@@ -221,6 +231,11 @@ pub returns-clause-raw : goal.returns-clause-raw
 returns-clause-raw c =
     let d = (goal.at.returns-clause-raw c).After-read_word-named in
     drop_raw (shape_of c.args.bank.now) c.args.o c.args.table c.args.word c.args.kind c.args.payload (view c.args.pass.now) (view c.read_word-named.new.pass) (view c.put_value.new.pass) c.requires.pass.1 c.requires.writes c.requires.open (load_named d) c.requires.own (reads_loaded (view c.args.pass.now) (view c.read_word-named.new.pass) c.args.kind c.args.payload c.args.pass.now.possible c.requires.own (load_named d)) c.put_value.ensures.only c.put_value.ensures.held c.put_value.ensures.unboxed c.put_value.ensures.references c.read_word-named.result (sym (old_stands d) ∙ c.if-old-ne-BOX_KIND.false) (named_is d) (view c.release.new.pass) c.release.ensures.only c.release.ensures.settled c.release.ensures.places c.release.ensures.references
+
+pub returns-clause-stands : goal.returns-clause-stands
+returns-clause-stands c =
+    let d = (goal.at.returns-clause-stands c).After-read_word-named in
+    drop_stands (shape_of c.args.bank.now) c.args.o c.args.table c.args.word c.args.kind c.args.payload (view c.args.pass.now) (view c.read_word-named.new.pass) (view c.put_value.new.pass) c.requires.pass.1 c.requires.writes c.requires.open (load_named d) c.requires.own (reads_loaded (view c.args.pass.now) (view c.read_word-named.new.pass) c.args.kind c.args.payload c.args.pass.now.possible c.requires.own (load_named d)) c.put_value.ensures.only c.put_value.ensures.held c.put_value.ensures.unboxed c.put_value.ensures.references c.read_word-named.result (sym (old_stands d) ∙ c.if-old-ne-BOX_KIND.false) (named_is d) (view c.release.new.pass) c.release.ensures.only c.release.ensures.settled c.release.ensures.places c.release.ensures.references
 
 pub returns-clause-words : goal.returns-clause-words
 returns-clause-words c =

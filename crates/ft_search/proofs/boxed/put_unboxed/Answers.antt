@@ -6,7 +6,7 @@ use Rattle.ft_bank.specs.BoxSteps.{IsOpenValue}
 use Rattle.ft_bank.specs.Passes.{shape_of, view}
 use Rattle.ft_bank.specs.TableNames.{table_id}
 use Rattle.ft_bank.specs.Whole.{OnlyLoaded}
-use Rattle.ft_bank.proofs.KnownAfterWrites.{loaded_put, loaded_then, put_written, written_then}
+use Rattle.ft_bank.proofs.KnownAfterWrites.{loaded_held, loaded_put, loaded_then, put_written, written_then}
 use Rattle.ft_search.specs.Boxed.{IsKnownBox, WritesTable}
 use Rattle.ft_search.proofs.Overs.{value_inside, word_inside, value_known, table_loaded, open_as, plain_refs, plain_words, still_unboxed}
 use Rattle.ft_search.proofs.Unboxing.{put_again}
@@ -107,6 +107,10 @@ returns-then-old-ne-BOX_KIND-clause-only c =
 pub returns-then-old-ne-BOX_KIND-clause-raw : goal.returns-then-old-ne-BOX_KIND-clause-raw
 returns-then-old-ne-BOX_KIND-clause-raw c e = c.if-old-ne-BOX_KIND.true (old_is (goal.at.returns-then-old-ne-BOX_KIND-clause-raw c).After-read_word-old ∙ e)
 
+pub returns-then-old-ne-BOX_KIND-clause-stands : goal.returns-then-old-ne-BOX_KIND-clause-stands
+returns-then-old-ne-BOX_KIND-clause-stands c at first second =
+    ap (λ (x : ContainerWords). slice_index x.table at) (loaded_held (view c.args.pass.now) (view c.read_word-old.new.pass) c.args.o (load_old (goal.at.returns-then-old-ne-BOX_KIND-clause-stands c).After-read_word-old))
+
 pub returns-then-old-ne-BOX_KIND-clause-words : goal.returns-then-old-ne-BOX_KIND-clause-words
 returns-then-old-ne-BOX_KIND-clause-words c =
     still_unboxed (shape_of c.args.bank.now) c.args.o c.args.table (view c.args.pass.now) (view c.read_word-old.new.pass) c.requires.pass.1 c.requires.writes (load_old (goal.at.returns-then-old-ne-BOX_KIND-clause-words c).After-read_word-old)
@@ -115,6 +119,11 @@ pub returns-then-old-ne-BOX_KIND-clause-references : goal.returns-then-old-ne-BO
 returns-then-old-ne-BOX_KIND-clause-references c = (load_old (goal.at.returns-then-old-ne-BOX_KIND-clause-references c).After-read_word-old).boxes.references
 
 -- ---- put in place
+
+pub returns-clause-stands : goal.returns-clause-stands
+returns-clause-stands c at first second =
+    c.put_over.ensures.stands at first second
+    ∙ ap (λ (x : ContainerWords). slice_index x.table at) (loaded_held (view c.args.pass.now) (view c.read_value-read.new.pass) c.args.o (load_all (goal.at.returns-clause-stands c).After-read_value-read))
 
 pub returns-clause-raw : goal.returns-clause-raw
 returns-clause-raw c e = plain_read (goal.at.returns-clause-raw c).After-read_value-read (sym c.put_over.ensures.raw.0 ∙ e)

@@ -8,7 +8,7 @@ use Rattle.ft_trace.specs.LoggedLookUps.{IsNew}
 use Rattle.ft_bank.specs.Passes.{shape_of, view}
 use Rattle.ft_bank.specs.Series.{DidAll}
 use Rattle.ft_bank.specs.TableNames.{table_id}
-use Rattle.ft_search.proofs.Running.{did_trans, did_log, at_same, inner_announces}
+use Rattle.ft_search.proofs.Running.{did_trans, did_log, at_same, inner_announces, inner_roots}
 use Rattle.ft_search.proofs.Spending.{searched_round, round_more}
 use Rattle.ft_search.proofs.rounds.search_table.Goals as goal
 
@@ -39,7 +39,7 @@ returns-then-again-root-clause-ended c =
       m.1,
       did_trans (ReadRoot s0.o r ∷ []) m.0 s0.pass.now s1.pass.now s2.pass.now m.2 read,
       ne,
-      λ u e. (table u e, sym (ap (reads u) log) ∙ new u (suc t) m.0 c.requires.last.0 e (λ x. ne (sym x)) (log ∙ ap (λ (z : List Act). m.0 ++ z) last) m.1),
+      λ u e. (table u e, sym (ap (reads u) log) ∙ new u (suc t) m.0 c.requires.last.0 e (λ x. ne (sym x)) (log ∙ ap (λ (z : List Act). m.0 ++ z) last) (inner_roots m.0 m.1)),
     )
 
 pub returns-clause-ended : goal.returns-clause-ended

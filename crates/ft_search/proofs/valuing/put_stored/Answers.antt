@@ -1,11 +1,11 @@
-use Rattle.std.proofs.Common.{◌≡◌, ◌≢◌, ℕ, ◌+◌, ◌<◌, sym, ap, ◌∙◌, subst, arith}
+use Rattle.std.proofs.Common.{◌≡◌, ◌≢◌, ℕ, ◌+◌, ◌<◌, sym, ap, ◌∙◌, subst, arith, get_or-set_other}
 use Rattle.std.specs.Prelude.{slice_index}
 use Rattle.ft_layout.specs.Words.{stored_kind, stored_payload}
 use Rattle.ft_trace.specs.Addresses.{class_of, slots}
 use Rattle.ft_trace.specs.Boxes.{names_box}
 use Rattle.ft_trace.specs.ContainerStates.{kind_in}
 use Rattle.ft_trace.specs.Holds.{held_words}
-use Rattle.ft_trace.specs.Pictures.{entry_offset}
+use Rattle.ft_trace.specs.Pictures.{ContainerWords, entry_field, entry_offset}
 use Rattle.ft_bank.specs.BoxSteps.{kind_read, payload_read, HasReferenceFor}
 use Rattle.ft_bank.specs.Passes.{shape_of, view}
 use Rattle.ft_bank.specs.TableNames.{table_id}
@@ -92,3 +92,13 @@ returns-clause-references c b =
     let put = c.put_over.ensures.references b in
     let names : names_box b c.stored_kind_of-kind_word.result c.stored_payload_of-payload.result ≡ names_box b (stored_kind c.args.stored) (stored_payload c.args.stored) = λ i. names_box b (c.stored_kind_of-kind_word.ensures i) (c.stored_payload_of-payload.ensures i) in
     omega (arith, here, put, names)
+
+pub returns-clause-others : goal.returns-clause-others
+returns-clause-others c other word ne few =
+    let a = c.args in
+    let at = at_four (goal.at.returns-clause-others c).After-word_at-word in
+    let n = slots (class_of (table_id a.table)) in
+    let x = held_words a.o (view a.pass.now) in
+    c.put_over.ensures.stands (entry_offset n other word) (λ e. ne (omega (arith, e, at, few))) (λ e. ne (omega (arith, e, at, few)))
+    ∙ (ap (λ (z : ContainerWords). entry_field n z.table other word) c.raise_at.ensures.raw
+    ∙ get_or-set_other x.table (entry_offset n a.place 0) (entry_offset n other word) (entry_field n x.table a.place 0 + 1) 0 (λ e. ne (omega (arith, e, few))))

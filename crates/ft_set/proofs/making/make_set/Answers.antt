@@ -33,7 +33,7 @@ returns-in-Add-clause-made c = subst (λ (sc : SetCall). SetCallMakes (shape_of 
 pub returns-in-Or-clause-making : goal.returns-in-Or-clause-making
 returns-in-Or-clause-making c =
     let e = c.or_by.ensures in
-    making_added c.args.bank.now c.args.pass.now c.or_by.new.pass c.requires.making e.pass e.stack e.added.0 e.added.1 _ _ _ (call.Set c.args.s (set.Or c.in-Or.other)) _ c.or_by.result (λ n l sections. refl) e.added.2
+    making_added c.args.bank.now c.args.pass.now c.or_by.new.pass c.requires.making e.pass e.stack e.added.0.0 e.added.0.1 _ _ _ (call.Set c.args.s (set.Or c.in-Or.other)) _ c.or_by.result (λ n l sections. refl) e.added.0.2
 
 pub returns-in-Or-clause-made : goal.returns-in-Or-clause-made
 returns-in-Or-clause-made c =

@@ -5,7 +5,7 @@ use Rattle.ft_bank.specs.SameBoxes.{SameBoxes}
 use Rattle.ft_bank.specs.Whole.{OnlyBoxed}
 use Rattle.ft_boxes.specs.Making.{FoundFull}
 use Rattle.ft_boxes.specs.References.{KeepsValues}
-use Rattle.ft_boxes.proofs.making.take_free.Given as goal
+use Rattle.ft_boxes.proofs.making.take_first.Given as goal
 
 abbrev pub invariant-loop-word : goal.invariant-loop-word
 invariant-loop-word l = record {

@@ -2,7 +2,8 @@
 //! in.
 ghost use Rattle.std.specs.Prelude.{◌≡◌, ◌+◌, ◌<◌, ◌^◌, ◌*◌, [], length, replicate, IfOk, ℕ};
 ghost use Rattle.ft_trace.specs.declared.Act.TheVariants.{ReadCounter};
-ghost use Rattle.ft_trace.specs.Addresses.{extent};
+ghost use Rattle.ft_layout.specs.Starts.{box_start, heap_size, heap_start};
+ghost use Rattle.ft_trace.specs.Addresses.{container_count, extent};
 ghost use Rattle.ft_trace.specs.Acts.{starter, maker, made, both, view_after, all_lists, tells};
 ghost use Rattle.ft_trace.specs.Traces.{MayFork, IsFree};
 ghost use Rattle.ft_bank.specs.Shapes.{plan, IsShape};
@@ -16,6 +17,7 @@ use crate::rule::{Law, Shares};
 use crate::sections::{Sections, Taking};
 use crate::shape::{MakeFault, Shape};
 use atomic_table::Table;
+use ft_layout::{box_start, heap_start};
 use ft_trace::View;
 use std::alloc::{AllocError, Global};
 use std::marker::Brand;
@@ -27,6 +29,10 @@ pub struct Bank {
     pub(crate) shape: Shape,
     pub(crate) starts: Vec<u64>,
     pub(crate) sizes: Vec<u64>,
+    /// Where the first heap begins, where its boxes do, and how many words a heap has.
+    pub(crate) heaps: u64,
+    pub(crate) boxes: u64,
+    pub(crate) heap_words: u64,
     ghost keyed: { table.shared.key ≡ shape },
     ghost wide: { table.shared.table_id.words ≡ extent (plan shape) },
     ghost bare: { table.shared.table_id.slots ≡ 0 },
@@ -35,6 +41,9 @@ pub struct Bank {
     ghost few: { shape.passes * shape.calls < 2 ^ 46 },
     ghost starting: { starts.items ≡ starts_from (plan shape) 3 14 },
     ghost sizing: { sizes.items ≡ sizes_from 3 14 },
+    ghost beginning: { heaps ≡ heap_start (container_count (plan shape)) shape.heap 0 },
+    ghost boxing: { boxes ≡ box_start (container_count (plan shape)) shape.heap 0 0 },
+    ghost heaping: { heap_words ≡ heap_size shape.heap },
 }
 
 /// Memory for what a pass keeps of its open sections and of the tables that it retired; there are none yet. Boxes make
@@ -71,11 +80,18 @@ impl Bank {
         let (table, seat) = Table::of_words(alloc, words.as_slice(), &shape)?;
         let (sections, retired) = nothing_kept(alloc)?;
         let left = u64::from(shape.passes) * u64::from(shape.calls);
+        let containers = shape.kinds.len() as u32;
+        let boxes = box_start(containers, shape.heap, 0, 0);
+        let heaps = heap_start(containers, shape.heap, 0);
+        let heap_words = heap_start(containers, shape.heap, 1) - heaps;
         let bank = Bank {
             table,
             shape,
             starts,
             sizes,
+            heaps,
+            boxes,
+            heap_words,
         };
         let pass = Pass {
             number: 0,
@@ -175,6 +191,9 @@ impl Bank {
             shape,
             starts: _,
             sizes: _,
+            heaps: _,
+            boxes: _,
+            heap_words: _,
         } = self;
         Closed { shape, pass }
     }

@@ -15,11 +15,13 @@ ghost use Rattle.ft_bank.specs.Whole.{OnlyBoxed, OnlyLoaded};
 
 use crate::bank::Bank;
 use crate::pass::Pass;
-use ft_layout::{Ref, box_start, free_place_word};
+use ft_layout::Ref;
 use std::marker::Brand;
 
 /// How many bits a word has.
 const BITS: u32 = 64;
+/// How many words a box has.
+const BOX: u64 = 4;
 /// The step between the names of two passes' first boxes.
 const NAMES: u32 = 65536;
 /// The shared count, the local count: which words of a box they are.
@@ -57,8 +59,7 @@ impl Bank {
         ensures is { result ≡ at (shape_of self.now) (box_word (box_id b) word) }
         ensures low { result < extent (shape_of self.now) }
     {
-        let containers = self.shape.kinds.len() as u32;
-        box_start(containers, self.shape.heap, b.pass, b.place) + word
+        self.boxes + u64::from(b.pass) * self.heap_words + BOX * u64::from(b.place) + word
     }
 
     /// Where a word of the bits of a heap lies.
@@ -68,8 +69,7 @@ impl Bank {
         ensures is { result ≡ at (shape_of self.now) (heap_bits maker word) }
         ensures low { result < extent (shape_of self.now) }
     {
-        let containers = self.shape.kinds.len() as u32;
-        free_place_word(containers, self.shape.heap, maker, word)
+        self.heaps + u64::from(maker) * self.heap_words + u64::from(word)
     }
 
     /// Loads a word of the bits of a pass's heap: a bit is set where the place is free.

@@ -1,3 +1,4 @@
 pub mod Steps
 pub mod Heaps
+pub mod CountSteps
 pub mod TakenBoxes

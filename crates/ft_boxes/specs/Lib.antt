@@ -1,5 +1,6 @@
 pub mod Internal
 pub mod References
 pub mod Making
+pub mod Counting
 pub mod Raising
 pub mod Merging

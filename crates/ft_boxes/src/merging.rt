@@ -6,6 +6,7 @@ ghost use Rattle.ft_bank.specs.Passes.{shape_of, view, IsPassOf};
 ghost use Rattle.ft_bank.specs.PassSections.{stack_of};
 ghost use Rattle.ft_bank.specs.SameBoxes.{SameReferences, TakesNoPlace};
 ghost use Rattle.ft_bank.specs.Whole.{OnlyBoxed, OnlyLoaded};
+ghost use Rattle.ft_boxes.specs.Counting.{TookBoxSteps};
 ghost use Rattle.ft_boxes.specs.Internal.Merges.{HasTakenOut, IsSettledBut, LeavesNoIdleBoxIn};
 ghost use Rattle.ft_boxes.specs.Merging.{FoundCounts, LeavesNoIdleBox, MergesAll, MergesIdleBoxes};
 ghost use Rattle.ft_boxes.specs.References.{KeepsValues, LeavesOthers};
@@ -30,6 +31,7 @@ pub(crate) fn is_own(bank: &Bank, pass: &mut Pass, b: Ref) -> bool
     requires name { IsBoxIn (shape_of bank.now) b }
     ensures pass { IsPassOf bank.now pass.new }
     ensures sections { stack_of pass.new ≡ stack_of pass.old }
+    ensures steps { TookBoxSteps pass.old pass.new }
     ensures only { OnlyLoaded (view pass.old) (view pass.new) }
     ensures own { IsTrue result → IsOwn b (view pass.new) }
     ensures shared { result ≡ false → IsShared b (view pass.new) }
@@ -48,6 +50,7 @@ fn take_local(bank: &Bank, pass: &mut Pass, b: Ref) -> u64
     requires settled { IsSettledBut b (view pass.old) }
     ensures pass { IsPassOf bank.now pass.new }
     ensures sections { stack_of pass.new ≡ stack_of pass.old }
+    ensures steps { TookBoxSteps pass.old pass.new }
     ensures only { OnlyBoxed (view pass.old) (view pass.new) }
     ensures taken { HasTakenOut b result (view pass.old) (view pass.new) }
     ensures values { KeepsValues (view pass.old) (view pass.new) }
@@ -67,6 +70,7 @@ pub(crate) fn merge(bank: &Bank, pass: &mut Pass, b: Ref)
     requires settled { IsSettledBut b (view pass.old) }
     ensures pass { IsPassOf bank.now pass.new }
     ensures sections { stack_of pass.new ≡ stack_of pass.old }
+    ensures steps { TookBoxSteps pass.old pass.new }
     ensures only { OnlyBoxed (view pass.old) (view pass.new) }
     ensures settled { IsSettled (view pass.new).log }
     ensures merged { made_state (box_id b) (view pass.new).log ≡ state_merged }

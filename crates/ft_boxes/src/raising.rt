@@ -7,7 +7,8 @@ ghost use Rattle.ft_bank.specs.Passes.{shape_of, view, IsPassOf};
 ghost use Rattle.ft_bank.specs.PassSections.{stack_of};
 ghost use Rattle.ft_bank.specs.SameBoxes.{GainsRaised, HoldsFew, SameReferences, TakesNoPlace};
 ghost use Rattle.ft_bank.specs.Whole.{OnlyBoxed};
-ghost use Rattle.ft_boxes.specs.Raising.{Raises};
+ghost use Rattle.ft_boxes.specs.Counting.{TookBoxSteps};
+ghost use Rattle.ft_boxes.specs.Raising.{Raises, RaisesBySteps};
 ghost use Rattle.ft_boxes.specs.References.{HoldsOneMore, KeepsValues, LeavesOthers, box_of};
 
 use crate::held::{Held, Raised};
@@ -38,6 +39,7 @@ pub fn raise(bank: &Bank, pass: &mut Pass, b: Ref) -> Raised
     requires saw { SawBox (shape_of bank.now) (box_id b) (view pass.old).log }
     ensures pass { IsPassOf bank.now pass.new }
     ensures sections { stack_of pass.new ≡ stack_of pass.old }
+    ensures steps { RaisesBySteps b pass.old pass.new result }
     ensures settled { IsSettled (view pass.new).log }
     ensures only { OnlyBoxed (view pass.old) (view pass.new) }
     ensures raised { Raises b (view pass.old) (view pass.new) result }
@@ -86,6 +88,7 @@ fn raise_if_own(bank: &Bank, pass: &mut Pass, b: Ref) -> bool
     requires few { HoldsFew (view pass.old) }
     ensures pass { IsPassOf bank.now pass.new }
     ensures sections { stack_of pass.new ≡ stack_of pass.old }
+    ensures steps { TookBoxSteps pass.old pass.new }
     ensures settled { IsSettled (view pass.new).log }
     ensures only { OnlyBoxed (view pass.old) (view pass.new) }
     ensures more { IsTrue result → HoldsOneMore b (view pass.old) (view pass.new) }
@@ -112,6 +115,7 @@ fn raise_own(bank: &Bank, pass: &mut Pass, b: Ref) -> bool
     requires few { HoldsFew (view pass.old) }
     ensures pass { IsPassOf bank.now pass.new }
     ensures sections { stack_of pass.new ≡ stack_of pass.old }
+    ensures steps { TookBoxSteps pass.old pass.new }
     ensures settled { IsSettled (view pass.new).log }
     ensures only { OnlyBoxed (view pass.old) (view pass.new) }
     ensures more { IsTrue result → HoldsOneMore b (view pass.old) (view pass.new) }
@@ -141,6 +145,7 @@ fn raise_shared(bank: &Bank, pass: &mut Pass, b: Ref) -> Raised
     requires saw { SawBox (shape_of bank.now) (box_id b) (view pass.old).log }
     ensures pass { IsPassOf bank.now pass.new }
     ensures sections { stack_of pass.new ≡ stack_of pass.old }
+    ensures steps { RaisesBySteps b pass.old pass.new result }
     ensures settled { IsSettled (view pass.new).log }
     ensures only { OnlyBoxed (view pass.old) (view pass.new) }
     ensures raised { Raises b (view pass.old) (view pass.new) result }

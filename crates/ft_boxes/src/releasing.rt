@@ -6,6 +6,7 @@ ghost use Rattle.ft_bank.specs.Passes.{shape_of, view, IsPassOf};
 ghost use Rattle.ft_bank.specs.PassSections.{stack_of};
 ghost use Rattle.ft_bank.specs.SameBoxes.{TakesNoPlace};
 ghost use Rattle.ft_bank.specs.Whole.{OnlyBoxed};
+ghost use Rattle.ft_boxes.specs.Counting.{TookBoxSteps};
 ghost use Rattle.ft_boxes.specs.References.{HoldsBox, HoldsOneLess, KeepsValues, LeavesNoTaken, LeavesOthers, box_of};
 
 use crate::held::Held;
@@ -27,6 +28,7 @@ pub fn release(bank: &Bank, pass: &mut Pass, held: Held)
     requires settled { IsSettled (view pass.old).log }
     ensures pass { IsPassOf bank.now pass.new }
     ensures sections { stack_of pass.new ≡ stack_of pass.old }
+    ensures steps { TookBoxSteps pass.old pass.new }
     ensures settled { IsSettled (view pass.new).log }
     ensures only { OnlyBoxed (view pass.old) (view pass.new) }
     ensures less { HoldsOneLess (box_of held) (view pass.old) (view pass.new) }
@@ -51,6 +53,7 @@ fn drop_own(bank: &Bank, pass: &mut Pass, b: Ref)
     requires settled { IsSettled (view pass.old).log }
     ensures pass { IsPassOf bank.now pass.new }
     ensures sections { stack_of pass.new ≡ stack_of pass.old }
+    ensures steps { TookBoxSteps pass.old pass.new }
     ensures settled { IsSettled (view pass.new).log }
     ensures only { OnlyBoxed (view pass.old) (view pass.new) }
     ensures less { HoldsOneLess b (view pass.old) (view pass.new) }
@@ -74,6 +77,7 @@ fn drop_shared(bank: &Bank, pass: &mut Pass, b: Ref)
     requires settled { IsSettled (view pass.old).log }
     ensures pass { IsPassOf bank.now pass.new }
     ensures sections { stack_of pass.new ≡ stack_of pass.old }
+    ensures steps { TookBoxSteps pass.old pass.new }
     ensures settled { IsSettled (view pass.new).log }
     ensures only { OnlyBoxed (view pass.old) (view pass.new) }
     ensures less { HoldsOneLess b (view pass.old) (view pass.new) }

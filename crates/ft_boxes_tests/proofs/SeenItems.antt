@@ -20,7 +20,7 @@ use Rattle.ft_bank.specs.Passes.{view, Did}
 use Rattle.ft_bank.specs.Series.{DidAll}
 use Rattle.ft_bank.specs.Whole.{OnlyLoaded}
 use Rattle.ft_bank.proofs.KnownAfterWrites.{loaded_by, loaded_then}
-use Rattle.ft_search.proofs.Rounding.{looks_did}
+use Rattle.ft_search.proofs.LoadedLooks.{looks_did}
 use Rattle.ft_search.proofs.Running.{did_trans}
 use Rattle.ft_boxes_tests.specs.declared.seeing.SeenItem.{SeenItem}
 use Rattle.ft_boxes_tests.specs.Seeing.{item_acts}

@@ -8,6 +8,8 @@ mod counting;
 #[cfg(test)]
 mod heaps;
 #[cfg(test)]
+mod looks;
+#[cfg(test)]
 mod merges;
 #[cfg(test)]
 mod moves;

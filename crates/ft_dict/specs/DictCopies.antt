@@ -13,8 +13,8 @@ use Rattle.ft_replacing.specs.Replacing.{IsReplaced}
 use Rattle.ft_replacing.specs.Sharing.{SharesPairs}
 
 -- What `copyto d e` comes to under the locks of both: a write of e, which gets a table of the class for as many pairs
--- as d has, always, or none where d has no pairs. A value that stands in a box stands in that box in both dicts then,
--- where they are two. (profile)
+-- as d has, always, or none where d has no pairs. A value that stands in a box of d stands in that box in both dicts then,
+-- which may be one. (profile)
 abbrev pub CopiesTo : Shape → ℕ → ℕ → View → View → Added → Type 0
 CopiesTo k d e v w what =
     IsReplaced k (copy_takes (length_of (known_state d v).content)) (call.Dict d (dict.CopyTo e)) v w what

@@ -17,7 +17,7 @@ use ft_section::Object;
 use ft_table_calls::Added;
 
 /// `copyto d e`, by a pass that has the locks of both dicts: e has the pairs of d then, in their order, and shares the
-/// boxes of their values. A dict that is named twice has its own pairs, with new serials, and its values in place.
+/// boxes of their values. A dict that is named twice has its own pairs, with new serials, and its values in their boxes.
 ///
 /// # Errors
 ///

@@ -6,11 +6,13 @@ ghost use Rattle.ft_model.specs.declared.call.DictCall.TheVariants as dict;
 ghost use Rattle.ft_model.specs.declared.script.Kind.TheVariants as kind;
 ghost use Rattle.ft_trace.specs.Acts.{announces};
 ghost use Rattle.ft_trace.specs.Addresses.{container_count};
+ghost use Rattle.ft_trace.specs.Boxes.{IsSettled};
 ghost use Rattle.ft_trace.specs.LookReplies.{key_reply};
 ghost use Rattle.ft_trace.specs.ContainerStates.{kind_in};
 ghost use Rattle.ft_bank.specs.KeyHashes.{IsKeyIn};
 ghost use Rattle.ft_bank.specs.Passes.{shape_of, view, IsPassOf};
 ghost use Rattle.ft_bank.specs.PassSections.{stack_of};
+ghost use Rattle.ft_bank.specs.SameBoxes.{HoldsFew};
 ghost use Rattle.ft_keys.specs.declared.walk.Way.TheVariants as way;
 ghost use Rattle.ft_search.specs.SearchCosts.{LoadsRounds};
 ghost use Rattle.ft_search.specs.KeyLooks.{IsLookOf};
@@ -28,7 +30,7 @@ use ft_section::{Look, Object};
 pub(crate) enum AtKey {
     /// The value, or none, and the stamp.
     Found(Option<Value>, u64),
-    /// Two loads of one version: the first is odd, or they differ.
+    /// Two loads of one version: the first is odd, or they differ; or the count word of a box moved, or was that of a dead box.
     Contended(u64, u64),
 }
 
@@ -51,6 +53,8 @@ fn find_value(bank: &Bank, pass: &mut Pass, d: Object, key: Key) -> AtKey
     requires key { IsKeyIn (shape_of bank.now) key }
     requires online { 0 < announces (view pass.old).log }
     requires left { 0 < (view pass.old).left }
+    requires settled { IsSettled (view pass.old).log }
+    requires few { HoldsFew (view pass.old) }
     ensures pass { IsPassOf bank.now pass.new }
     ensures sections { stack_of pass.new ≡ stack_of pass.old }
     ensures found { IsFoundAt d key (view pass.old) (view pass.new) result }
@@ -73,7 +77,8 @@ fn find_value(bank: &Bank, pass: &mut Pass, d: Object, key: Key) -> AtKey
 /// # Errors
 ///
 /// `Contended` where two loads of the version of the key's own entry gave an odd number or two different
-/// ones; of the container's version, where its root was read 0. It never answers `NoMemory`.
+/// ones; of the container's version, where its root was read 0. Where the entry names a box, also where the count word of
+/// the box moved when it should be raised, or was that of a dead box. It never answers `NoMemory`.
 #[inline(always)]
 pub fn look_get(bank: &Bank, pass: &mut Pass, d: Object, key: Key) -> Look
     requires pass { IsPassOf bank.now pass.old }
@@ -82,6 +87,8 @@ pub fn look_get(bank: &Bank, pass: &mut Pass, d: Object, key: Key) -> Look
     requires key { IsKeyIn (shape_of bank.now) key }
     requires online { 0 < announces (view pass.old).log }
     requires left { 0 < (view pass.old).left }
+    requires settled { IsSettled (view pass.old).log }
+    requires few { HoldsFew (view pass.old) }
     ensures pass { IsPassOf bank.now pass.new }
     ensures sections { stack_of pass.new ≡ stack_of pass.old }
     ensures looked { IsLookOf d key (call.Dict d (dict.Get key)) (view pass.old) (view pass.new) result }
@@ -110,6 +117,8 @@ pub fn look_getd(bank: &Bank, pass: &mut Pass, d: Object, key: Key, default: Val
     requires key { IsKeyIn (shape_of bank.now) key }
     requires online { 0 < announces (view pass.old).log }
     requires left { 0 < (view pass.old).left }
+    requires settled { IsSettled (view pass.old).log }
+    requires few { HoldsFew (view pass.old) }
     ensures pass { IsPassOf bank.now pass.new }
     ensures sections { stack_of pass.new ≡ stack_of pass.old }
     ensures looked { IsLookOf d key (call.Dict d (dict.GetOr key default)) (view pass.old) (view pass.new) result }
@@ -140,6 +149,8 @@ pub fn look_has(bank: &Bank, pass: &mut Pass, d: Object, key: Key) -> Look
     requires key { IsKeyIn (shape_of bank.now) key }
     requires online { 0 < announces (view pass.old).log }
     requires left { 0 < (view pass.old).left }
+    requires settled { IsSettled (view pass.old).log }
+    requires few { HoldsFew (view pass.old) }
     ensures pass { IsPassOf bank.now pass.new }
     ensures sections { stack_of pass.new ≡ stack_of pass.old }
     ensures looked { IsLookOf d key (call.Dict d (dict.Has key)) (view pass.old) (view pass.new) result }

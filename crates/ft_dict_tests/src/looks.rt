@@ -1,5 +1,6 @@
 //! Look-ups of a dict without a table, before and in the midst of another pass's write.
 use crate::{go_online, open_three};
+use ft_boxes::new_passes_are_settled;
 use ft_dict::{look_get, look_has};
 use ft_model::{Key, Raise, Reply};
 use ft_section::Look;
@@ -9,6 +10,8 @@ use std::test::Fail;
 fn a_dict_that_is_written_contends(rt: HostRuntime) -> Result<(), Fail> {
     let alloc = rt.alloc();
     let (bank, mut writer, mut early, mut late) = open_three(alloc)?;
+    new_passes_are_settled(&bank, &early);
+    new_passes_are_settled(&bank, &late);
     if !go_online(&bank, &mut early) {
         return Err(Fail::from("the write number begins with 1"));
     }

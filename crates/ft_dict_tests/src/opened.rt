@@ -3,7 +3,8 @@ ghost use Rattle.std.specs.Prelude.{◌≡◌, [], ◌∷◌, ◌<◌, true, IfO
 ghost use Rattle.ft_model.specs.declared.script.Kind.TheVariants.{Dict, Set};
 ghost use Rattle.ft_trace.specs.Acts.{announces};
 ghost use Rattle.ft_bank.specs.NewPasses.{IsOpening, AreOpening};
-ghost use Rattle.ft_bank.specs.Passes.{shape_of, view, IsPassOf};
+ghost use Rattle.ft_bank.specs.Passes.{shape_of, view};
+ghost use Rattle.ft_dict_tests.specs.TwoDicts.{MayLook};
 ghost use Rattle.ft_model.specs.Worlds.{start_as};
 
 use ft_bank::{Bank, Pass, Shape};
@@ -85,8 +86,8 @@ pub(crate) fn only(bank: &Bank, passes: Vec<Pass>) -> Option<Pass>
 
 /// Has a pass announce that it is online; `false` where the write number is 0, which it never is.
 pub fn go_online(bank: &Bank, pass: &mut Pass) -> bool
-    requires pass { IsPassOf bank.now pass.old }
-    ensures pass { IsPassOf bank.now pass.new }
+    requires reader { MayLook bank.now pass.old }
+    ensures reader { MayLook bank.now pass.new }
     ensures online { result ≡ true → 0 < announces (view pass.new).log }
     ensures left { (view pass.new).left ≡ (view pass.old).left }
 {

@@ -14,10 +14,11 @@ ghost use Rattle.ft_bank.specs.TableNames.{table_id, IsTableIn};
 ghost use Rattle.ft_search.specs.OneEntryWrites.{HasTable, IsLiveEntry, MayWriteEntries};
 ghost use Rattle.ft_section.specs.declared.answers.Objects.{Objects};
 ghost use Rattle.ft_section.specs.Ready.{MayTry};
-ghost use Rattle.ft_dict_tests.specs.TwoDicts.{HasTwoDicts};
+ghost use Rattle.ft_dict_tests.specs.TwoDicts.{HasTwoDicts, MayLook};
 
 use ft_bank::{Bank, Pass, Shape, Table};
 use ft_bank_tests::bank_of_two;
+use ft_boxes::new_passes_are_settled;
 use ft_dict::{look_get, try_set, try_update};
 use ft_keys::Way;
 use ft_layout::{used_entries_follow_a_dict, versions_change_nothing, words_follow_a_dict};
@@ -186,8 +187,8 @@ fn set_halfway(bank: &Bank, writer: &mut Pass, key: u32, value: Value) -> bool
 /// Whether a look-up of a key of dict 0 answers its value, after six writes.
 fn is_answered(bank: &Bank, reader: &mut Pass, key: u32) -> bool
     requires dicts { HasTwoDicts bank.now }
-    requires pass { IsPassOf bank.now reader.old }
-    ensures pass { IsPassOf bank.now reader.new }
+    requires pass { MayLook bank.now reader.old }
+    ensures pass { MayLook bank.now reader.new }
 {
     enter(bank, reader);
     if reader.left() == 0 {
@@ -204,8 +205,8 @@ fn is_answered(bank: &Bank, reader: &mut Pass, key: u32) -> bool
 /// Whether a look-up of a key of dict 0 is contended by two loads of a version that gave this.
 fn is_contended(bank: &Bank, reader: &mut Pass, key: u32, version: u64) -> bool
     requires dicts { HasTwoDicts bank.now }
-    requires pass { IsPassOf bank.now reader.old }
-    ensures pass { IsPassOf bank.now reader.new }
+    requires pass { MayLook bank.now reader.old }
+    ensures pass { MayLook bank.now reader.new }
 {
     enter(bank, reader);
     if reader.left() == 0 {
@@ -218,8 +219,8 @@ fn is_contended(bank: &Bank, reader: &mut Pass, key: u32, version: u64) -> bool
 /// that is set is contended, by its entry's version, and another one is answered.
 fn is_right(bank: &Bank, reader: &mut Pass, key: u32, changed: u32, version: u64) -> bool
     requires dicts { HasTwoDicts bank.now }
-    requires pass { IsPassOf bank.now reader.old }
-    ensures pass { IsPassOf bank.now reader.new }
+    requires pass { MayLook bank.now reader.old }
+    ensures pass { MayLook bank.now reader.new }
 {
     if key == changed {
         return is_contended(bank, reader, key, version);
@@ -230,7 +231,7 @@ fn is_right(bank: &Bank, reader: &mut Pass, key: u32, changed: u32, version: u64
 /// The first of dict 0's keys whose look-up doesn't do as it should.
 fn first_wrong(bank: &Bank, reader: &mut Pass, changed: u32, version: u64) -> Option<u32>
     requires dicts { HasTwoDicts bank.now }
-    requires pass { IsPassOf bank.now reader.old }
+    requires pass { MayLook bank.now reader.old }
 {
     for key in 0..KEYS {
         if !is_right(bank, reader, key, changed, version) {
@@ -244,6 +245,7 @@ fn first_wrong(bank: &Bank, reader: &mut Pass, changed: u32, version: u64) -> Op
 fn wrong_beside(alloc: Global, changed: u32, value: Value) -> Result<Option<u32>, Fail> {
     let (bank, mut writer, mut reader) = two_dicts(alloc)?;
     new_passes_are_ready(&bank, &writer);
+    new_passes_are_settled(&bank, &reader);
     fill(&bank, &mut writer)?;
     if !set_halfway(&bank, &mut writer, changed, value) {
         return Err(Fail::from("the key is there with another value"));

@@ -3,7 +3,7 @@ use Rattle.std.proofs.Common.{◌≡◌, ◌≢◌, ◌≤◌, ◌+◌, ℕ, Boo
 use Rattle.std.specs.Prelude.{max, if◌then◌else◌, ◌⊎◌}
 use Rattle.std.proofs.Math.Logic.{∥∥₁_elim}
 use Rattle.std.proofs.Math.Nat.{le-max_left, le-max_right, max-le, ℕ_set}
-use Rattle.ft_trace.specs.Boxes.{HasMergedBoxes}
+use Rattle.ft_trace.specs.Boxes.{HasMergedBoxes, IsSettled}
 use Rattle.ft_trace.specs.declared.Act.TheVariants.{ReadCounter, TakeFloor}
 use Rattle.ft_trace.specs.declared.Shape.{Shape}
 use Rattle.ft_trace.specs.declared.Snap.{Snap}
@@ -19,7 +19,9 @@ use Rattle.ft_bank.specs.declared.tokens.Tokens.{Tokens}
 use Rattle.ft_bank.specs.Floors.{carried, rests, stack_at_rest}
 use Rattle.ft_bank.specs.Passes.{view, IsPassOf}
 use Rattle.ft_bank.specs.PassSections.{Stack, nothing_taken, noted_in, stack_of, taken_in}
+use Rattle.ft_bank.specs.SameBoxes.{HoldsFew}
 use Rattle.ft_bank.specs.Slips.{slip_with}
+use Rattle.ft_search.proofs.Puts.{few_done}
 use Rattle.ft_section.specs.Ready.{IsReady, IsStill}
 use Rattle.ft_engine.specs.declared.caller.Caller.{Caller}
 use Rattle.ft_engine.specs.declared.engine.Engine.{Engine}
@@ -115,6 +117,13 @@ woken_steady v t k n snap blank s =
 
 pub still_of : (e : Engine) (c : Caller) → IsCallerOf e c → IsStill (view c.pass)
 still_of e c is = (in_call_of e.bank c.pass c.cursors.items c.flight is.inside).1.still
+
+-- so it may take the steps of a look
+pub settled_of : (e : Engine) (c : Caller) → IsCallerOf e c → IsSettled (view c.pass).log
+settled_of e c is = (still_of e c is).boxes.settled
+
+pub few_of : (e : Engine) (c : Caller) → IsCallerOf e c → HoldsFew (view c.pass)
+few_of e c is = few_done (view c.pass).shape (view c.pass) refl (still_of e c is).boxes
 
 -- a pass may rest whatever its caller is in
 pub quiet_of : (e : Engine) (c : Caller) → IsCallerOf e c → IsQuiet (view c.pass)

@@ -8,6 +8,7 @@ use Rattle.ft_model.specs.Calls.{moved_cursor}
 use Rattle.ft_trace.specs.declared.Shape.{Shape}
 use Rattle.ft_trace.specs.declared.View.{View}
 use Rattle.ft_trace.specs.Pictures.{ContainerWords}
+use Rattle.ft_trace.specs.Traces.{IsReachable}
 use Rattle.ft_bank.specs.declared.bank.Bank.{Bank}
 use Rattle.ft_bank.specs.declared.pass.Pass.{Pass}
 use Rattle.ft_bank.specs.Passes.{view}
@@ -15,6 +16,7 @@ use Rattle.ft_section.specs.declared.answers.Look.{Look}
 use Rattle.ft_section.specs.declared.answers.Look.TheVariants as look
 use Rattle.ft_section.specs.declared.answers.Objects.{Objects}
 use Rattle.ft_section.specs.declared.answers.Step.{Step}
+use Rattle.ft_search.proofs.LookSteps.{loads_are_steps, loads_looked}
 use Rattle.ft_section.specs.LockTakings.{AreIn}
 use Rattle.ft_section.specs.Trying.{SectionsAfter}
 use Rattle.ft_table_calls.specs.TriesUnderLocks.{objects_by}
@@ -23,7 +25,7 @@ use Rattle.ft_reads.specs.Glances.{IsCopyGlanceOf}
 use Rattle.ft_engine.specs.Answering.{IsLooked, IsTryOfCall, copies}
 use Rattle.ft_engine.specs.Asked.{AreOfKindIn, IsOnContainers}
 use Rattle.ft_engine.specs.Flights.{objects_of}
-use Rattle.ft_engine.proofs.ListLooks.{StopsAt}
+use Rattle.ft_engine.proofs.ListLooks.{StopsAt, answered_by_look}
 use Rattle.ft_engine.proofs.LooksBefore.{outcome_walked, plain_call, tried_of}
 use Rattle.ft_engine.proofs.Outcomes.{Outcome}
 
@@ -39,7 +41,7 @@ all_in k kind o (Some p) x = are_in k o p x.0.0 x.1.0
 
 -- ---- looks
 
-pub copy_looked : (k : Shape) (o : ℕ) (some : ContainerWords → Type 0) (called : Call) (v w : View) (answer : Look) → copies called ≡ true → StopsAt v.shape o called → IsCopyGlanceOf k o some called v w answer → IsLooked called v w answer
-copy_looked k o some called v w (look.Done said stamp) copying stops x = (x.0, x.1)
-copy_looked k o some called v w (look.Contended a b) copying stops x = (x.part, x.own, x.loaded, stops a b x.part x.stops, x.looks)
-copy_looked k o some called v w look.NoMemory copying stops x = (x.0, copying)
+pub copy_looked : (k : Shape) (o : ℕ) (some : ContainerWords → Type 0) (called : Call) (v w : View) (answer : Look) → ∥ IsReachable v ∥₁ → copies called ≡ true → StopsAt v.shape o called → IsCopyGlanceOf k o some called v w answer → IsLooked called v w answer
+copy_looked k o some called v w (look.Done said stamp) possible copying stops x = (answered_by_look called said stamp.number v w possible x.0, x.1)
+copy_looked k o some called v w (look.Contended a b) possible copying stops x = (x.part, x.own, loads_looked v w possible x.loaded, stops a b x.part x.stops, loads_are_steps x.part x.looks)
+copy_looked k o some called v w look.NoMemory possible copying stops x = (loads_looked v w possible x.0, copying)

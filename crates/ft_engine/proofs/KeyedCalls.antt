@@ -159,7 +159,7 @@ fits_set k s sc names key none = (names.0, names.1, key, none, λ copies. refl)
 
 pub key_looked : (o : ℕ) (key : Key) (called : Call) (v w : View) (answer : Look) → ((a b : ℕ) (part : List Act) → Stops v.shape o key a b part → StopsCall v.shape called a b part) → IsLookOf o key called v w answer → IsLooked called v w answer
 key_looked o key called v w (look.Done said stamp) stops x = (x.0, x.1)
-key_looked o key called v w (look.Contended a b) stops x = (x.part, x.own, x.loaded, stops a b x.part x.stops, x.looks)
+key_looked o key called v w (look.Contended a b) stops x = (x.part, x.own, x.looked, stops a b x.part x.stops, x.looks)
 key_looked o key called v w look.NoMemory stops x = absurd x
 
 -- by the call that was given

@@ -12,17 +12,17 @@ use Rattle.ft_trace.proofs.Owning.{same_finds_more, same_locks_only}
 use Rattle.ft_bank.specs.declared.bank.Bank.{Bank}
 use Rattle.ft_bank.specs.declared.pass.Pass.{Pass}
 use Rattle.ft_bank.specs.declared.sections.Taking.{Taking}
-use Rattle.ft_bank.specs.Answered.{Answered}
 use Rattle.ft_bank.specs.Passes.{view, IsPassOf}
 use Rattle.ft_bank.specs.PassSections.{Stack, nothing_taken, stack_of}
-use Rattle.ft_bank.specs.Whole.{OnlyLoaded}
 use Rattle.ft_section.specs.declared.answers.Look.{Look}
 use Rattle.ft_section.specs.declared.answers.Look.TheVariants as look
 use Rattle.ft_section.specs.declared.answers.Stamp.{Stamp}
 use Rattle.ft_section.specs.Locking.{TakenUp, with_own}
 use Rattle.ft_section.specs.Ready.{InCall, IsReady}
 use Rattle.ft_section.proofs.MidstOfCall.{in_call_stays}
-use Rattle.ft_search.proofs.ReadMidst.{LeavesSections, sections_read, still_read}
+use Rattle.ft_search.specs.KeyLooks.{AnsweredByLook}
+use Rattle.ft_search.specs.LookSteps.{OnlyLooked}
+use Rattle.ft_search.proofs.ReadMidst.{LeavesSections, sections_looked, still_look}
 use Rattle.ft_engine.specs.declared.caller.Caller.{Caller}
 use Rattle.ft_engine.specs.declared.caller.Flight.{Flight}
 use Rattle.ft_engine.specs.declared.caller.Flight.TheVariants as flight
@@ -38,18 +38,18 @@ use Rattle.ft_engine.specs.Owning.{AreOwnedBy}
 use Rattle.ft_engine.specs.Stacks.{StackAfter}
 use Rattle.ft_engine.proofs.Callers.{at_hand, idle_free}
 use Rattle.ft_engine.proofs.Keeping.{kept_answered, kept_done, kept_refused, no_answer_idle}
-use Rattle.ft_engine.proofs.LooksBefore.{IsPlain, loaded_ready, plain_call}
-use Rattle.ft_engine.proofs.Outcomes.{answered_adds, loaded_nothing}
+use Rattle.ft_engine.proofs.LooksBefore.{IsPlain, plain_call, steps_ready}
+use Rattle.ft_engine.proofs.Outcomes.{boxed_nothing, look_adds}
 use Rattle.ft_engine.proofs.KnownOwners.{answered_owned, calm_owned, done_owned, refused_owned}
-use Rattle.ft_engine.proofs.Within.{answered_owners, loaded_owners, looks_still, walked_none}
+use Rattle.ft_engine.proofs.Within.{looked_owners, looks_still, walked_none}
 
 -- ---- the pass
 
-pub read_ready : (b : Bank) (p q : Pass) (called : Call) (said : Reply) (n : ℕ) → LeavesSections called → IsReady b p → IsPassOf b q → stack_of q ≡ stack_of p → Answered called said n (view p) (view q) → IsReady b q
+pub read_ready : (b : Bank) (p q : Pass) (called : Call) (said : Reply) (n : ℕ) → LeavesSections called → IsReady b p → IsPassOf b q → stack_of q ≡ stack_of p → AnsweredByLook called said n (view p) (view q) → IsReady b q
 read_ready b p q called said n leaves r pass stack a =
-    let same = sections_read called said n (view p) (view q) leaves a in
+    let same = sections_looked called said n (view p) (view q) leaves a in
     record {
-      inside = (pass, subst (InCall (view q)) (sym stack) (in_call_stays (view p) (view q) (stack_of p) r.inside.1 same.0 same.1 same.2 (still_read called said n (view p) (view q) a r.inside.1.still)));
+      inside = (pass, subst (InCall (view q)) (sym stack) (in_call_stays (view p) (view q) (stack_of p) r.inside.1 same.0 same.1 same.2 (still_look called said n (view p) (view q) a r.inside.1.still)));
       own = ap (λ (s : Stack). s.own) stack ∙ r.own;
       mark = ap (λ (s : Stack). s.mark) stack ∙ r.mark;
       top = λ outer top split.
@@ -81,7 +81,7 @@ looks_none called may number moves = absurd (let e : None ≡ Some number = sym 
 -- ---- the caller
 
 -- it has its answer
-pub looked_caller : (e : Engine) (c : Caller) (q : Pass) (called : Call) (said : Reply) (stamp : Stamp) → IsCallerOf e c → c.flight ≡ flight.Idle → 0 < c.calls - c.made → IsPlain called → IsPassOf e.bank q → stack_of q ≡ stack_of c.pass → MakesEntry called said stamp (view c.pass) (view q) → ((number : ℕ) → moved_cursor called ≡ Some number → ⊥) → Answered called said stamp.number (view c.pass) (view q) → IsCallerOf e (record c { pass = q; made = c.made + 1 })
+pub looked_caller : (e : Engine) (c : Caller) (q : Pass) (called : Call) (said : Reply) (stamp : Stamp) → IsCallerOf e c → c.flight ≡ flight.Idle → 0 < c.calls - c.made → IsPlain called → IsPassOf e.bank q → stack_of q ≡ stack_of c.pass → MakesEntry called said stamp (view c.pass) (view q) → ((number : ℕ) → moved_cursor called ≡ Some number → ⊥) → AnsweredByLook called said stamp.number (view c.pass) (view q) → IsCallerOf e (record c { pass = q; made = c.made + 1 })
 looked_caller e c q called said stamp is idle left plain pass stack entry moves a = record {
   pass = pass;
   inside = subst (IsIn e.bank q c.cursors.items) (sym idle) (read_ready e.bank c.pass q called said stamp.number plain.sections (subst (IsIn e.bank c.pass c.cursors.items) idle is.inside) pass stack a);
@@ -95,9 +95,9 @@ looked_caller e c q called said stamp is idle left plain pass stack entry moves 
 }
 
 -- it loaded words, and was refused memory or not
-pub loaded_caller : (e : Engine) (c : Caller) (q : Pass) (f : Flight) → IsCallerOf e c → c.flight ≡ flight.Idle → IsPassOf e.bank q → stack_of q ≡ stack_of c.pass → OnlyLoaded (view c.pass) (view q) → IsIn e.bank q c.cursors.items f → IsCallerOf e (record c { pass = q; flight = f })
+pub loaded_caller : (e : Engine) (c : Caller) (q : Pass) (f : Flight) → IsCallerOf e c → c.flight ≡ flight.Idle → IsPassOf e.bank q → stack_of q ≡ stack_of c.pass → OnlyLooked (view c.pass) (view q) → IsIn e.bank q c.cursors.items f → IsCallerOf e (record c { pass = q; flight = f })
 loaded_caller e c q f is idle pass stack l inside =
-    let n = loaded_nothing (view c.pass) (view q) l in
+    let n = boxed_nothing (view c.pass) (view q) l.boxed in
     record {
       pass = pass;
       inside = inside;
@@ -110,8 +110,8 @@ loaded_caller e c q f is idle pass stack l inside =
       over = is.over;
     }
 
-pub loaded_inside : (e : Engine) (c : Caller) (q : Pass) → IsCallerOf e c → c.flight ≡ flight.Idle → IsPassOf e.bank q → stack_of q ≡ stack_of c.pass → OnlyLoaded (view c.pass) (view q) → IsReady e.bank q
-loaded_inside e c q is idle pass stack l = loaded_ready e.bank c.pass q pass stack l (subst (IsIn e.bank c.pass c.cursors.items) idle is.inside)
+pub loaded_inside : (e : Engine) (c : Caller) (q : Pass) → IsCallerOf e c → c.flight ≡ flight.Idle → IsPassOf e.bank q → stack_of q ≡ stack_of c.pass → OnlyLooked (view c.pass) (view q) → IsReady e.bank q
+loaded_inside e c q is idle pass stack l = steps_ready e.bank c.pass q pass stack l (subst (IsIn e.bank c.pass c.cursors.items) idle is.inside)
 
 -- ---- the list
 
@@ -145,13 +145,13 @@ module _ (e : Engine) (c : Caller) (called : Call) (is : IsCallerOf e c) (idle :
       subst (λ (x : Stack × Flight × Option ℕ). AreOwnedBy w x.0 x.1 (mine ++ named_entry (thread_of c) mine called said stamp x.2 ∷ [])) (λ d. (sym stack d, sym idle d, idle_ready.mark d)) done
 
   -- it was refused memory
-  looked_refused : (q : Pass) (mine : List NamedEntry) → stack_of q ≡ stack_of c.pass → OnlyLoaded (view c.pass) (view q) → AreOwnedBy (view c.pass) (stack_of c.pass) c.flight mine → AreOwnedBy (view q) (stack_of q) (flight.Refused called) mine
+  looked_refused : (q : Pass) (mine : List NamedEntry) → stack_of q ≡ stack_of c.pass → OnlyLooked (view c.pass) (view q) → AreOwnedBy (view c.pass) (stack_of c.pass) c.flight mine → AreOwnedBy (view q) (stack_of q) (flight.Refused called) mine
   looked_refused q mine stack l old =
       let v = view c.pass in
       let w = view q in
       let hands = c.cursors.items in
-      let n = loaded_nothing v w l in
-      let owners = loaded_owners v w l in
+      let n = boxed_nothing v w l.boxed in
+      let owners = l.boxed.work.pass.owners in
       refused_owned v w (stack_of c.pass) (stack_of q) c.flight mine called hands n.pass.number n.pass.lists (same_locks_only (IsLockedFor hands called) v w owners) (same_finds_more v w owners) old (no_answer_idle c.flight idle) idle_next (idle_free e c is) (at_hand hands v is.cursors) n.cursors (stack ∙ idle_same)
 
 pub looked_kept : (e : Engine) (c : Caller) (q : Pass) (called : Call) (said : Reply) (stamp : Stamp) (mine : List NamedEntry) → IsCallerOf e c → c.flight ≡ flight.Idle → IsPlain called → may_look called ≡ true → stack_of q ≡ stack_of c.pass → MakesEntry called said stamp (view c.pass) (view q) → SameOwners (view c.pass) (view q) → WasAnswered c mine → WasAnswered (record c { pass = q; made = c.made + 1 }) (mine ++ named_entry (thread_of c) mine called said stamp None ∷ [])
@@ -166,16 +166,16 @@ looked_kept e c q called said stamp mine is idle plain looks stack entry owners 
       looked_owned e c called is idle q said stamp mine plain looks stack entry owners kept.1,
     )
 
-pub loaded_kept : (c : Caller) (q : Pass) (f : Flight) (mine : List NamedEntry) → stack_of q ≡ stack_of c.pass → OnlyLoaded (view c.pass) (view q) → AreThreadEntries (thread_of c) (view c.pass).entries (stack_of c.pass) f mine → AreOwnedBy (view q) (stack_of q) f mine → WasAnswered (record c { pass = q; flight = f }) mine
+pub loaded_kept : (c : Caller) (q : Pass) (f : Flight) (mine : List NamedEntry) → stack_of q ≡ stack_of c.pass → OnlyLooked (view c.pass) (view q) → AreThreadEntries (thread_of c) (view c.pass).entries (stack_of c.pass) f mine → AreOwnedBy (view q) (stack_of q) f mine → WasAnswered (record c { pass = q; flight = f }) mine
 loaded_kept c q f mine stack l kept owned =
-    let n = loaded_nothing (view c.pass) (view q) l in
+    let n = boxed_nothing (view c.pass) (view q) l.boxed in
     (subst (λ (x : ℕ × List Entry × Stack). AreThreadEntries x.0 x.1 x.2 f mine) (λ d. (ap (λ (k : ℕ). k - 1) (sym n.pass.number) d, sym n.entries d, sym stack d)) kept, owned)
 
 -- it was contended
-contended_kept : (c : Caller) (q : Pass) (mine : List NamedEntry) → stack_of q ≡ stack_of c.pass → OnlyLoaded (view c.pass) (view q) → WasAnswered c mine → WasAnswered (record c { pass = q }) mine
+contended_kept : (c : Caller) (q : Pass) (mine : List NamedEntry) → stack_of q ≡ stack_of c.pass → OnlyLooked (view c.pass) (view q) → WasAnswered c mine → WasAnswered (record c { pass = q }) mine
 contended_kept c q mine stack l kept =
-    let n = loaded_nothing (view c.pass) (view q) l in
-    loaded_kept c q c.flight mine stack l kept.0 (subst (λ (s : Stack). AreOwnedBy (view q) s c.flight mine) (sym stack) (calm_owned (view c.pass) (view q) (stack_of c.pass) c.flight mine n.pass.number n.pass.lists (loaded_owners (view c.pass) (view q) l) n.cursors kept.1))
+    let n = boxed_nothing (view c.pass) (view q) l.boxed in
+    loaded_kept c q c.flight mine stack l kept.0 (subst (λ (s : Stack). AreOwnedBy (view q) s c.flight mine) (sym stack) (calm_owned (view c.pass) (view q) (stack_of c.pass) c.flight mine n.pass.number n.pass.lists l.boxed.work.pass.owners n.cursors kept.1))
 
 -- it was refused memory
 pub refused_kept : (e : Engine) (c : Caller) (called : Call) (mine : List NamedEntry) → IsCallerOf e c → c.flight ≡ flight.Idle → WasAnswered c mine → AreThreadEntries (thread_of c) (view c.pass).entries (stack_of c.pass) (flight.Refused called) mine
@@ -186,9 +186,9 @@ refused_kept e c called mine is idle kept =
 
 module _ (e : Engine) (c : Caller) (q : Pass) (called : Call) (is : IsCallerOf e c) (idle : c.flight ≡ flight.Idle) (left : 0 < c.calls - c.made) (looks : may_look called ≡ true) (pass : IsPassOf e.bank q) (stack : stack_of q ≡ stack_of c.pass) where
   done_entry : (said : Reply) (stamp : Stamp) → IsLooked called (view c.pass) (view q) (look.Done said stamp) → MakesEntry called said stamp (view c.pass) (view q)
-  done_entry said stamp x = let k = is.left in answered_adds called said stamp (view c.pass) (view q) x.1 (omega (arith, left, k)) x.0
+  done_entry said stamp x = let k = is.left in look_adds called said stamp (view c.pass) (view q) x.1 (omega (arith, left, k)) x.0
 
-  still_inside : OnlyLoaded (view c.pass) (view q) → IsReady e.bank q
+  still_inside : OnlyLooked (view c.pass) (view q) → IsReady e.bank q
   still_inside l = loaded_inside e c q is idle pass stack l
 
   pub after_caller : (answer : Look) → IsLooked called (view c.pass) (view q) answer → IsCallerOf e (after_look called answer (record c { pass = q }))
@@ -199,8 +199,8 @@ module _ (e : Engine) (c : Caller) (q : Pass) (called : Call) (is : IsCallerOf e
 
   pub after_same : (answer : Look) → IsLooked called (view c.pass) (view q) answer → StaysCaller c (after_look called answer (record c { pass = q }))
   after_same (look.Done said stamp) x = record { pass = (done_entry said stamp x).pass; room = refl }
-  after_same (look.Contended a b) x = record { pass = (loaded_nothing (view c.pass) (view q) x.2).pass; room = refl }
-  after_same look.NoMemory x = record { pass = (loaded_nothing (view c.pass) (view q) x.0).pass; room = refl }
+  after_same (look.Contended a b) x = record { pass = (boxed_nothing (view c.pass) (view q) x.2.boxed).pass; room = refl }
+  after_same look.NoMemory x = record { pass = (boxed_nothing (view c.pass) (view q) x.0.boxed).pass; room = refl }
 
   pub after_flight : (answer : Look) → (after_look called answer (record c { pass = q })).flight ≡ flight_looked called answer
   after_flight (look.Done said stamp) = idle
@@ -208,7 +208,7 @@ module _ (e : Engine) (c : Caller) (q : Pass) (called : Call) (is : IsCallerOf e
   after_flight look.NoMemory = refl
 
   pub after_kept : (answer : Look) (mine : List NamedEntry) → IsLooked called (view c.pass) (view q) answer → WasAnswered c mine → WasAnswered (after_look called answer (record c { pass = q })) (entries_with_look (thread_of c) called answer mine)
-  after_kept (look.Done said stamp) mine x kept = looked_kept e c q called said stamp mine is idle (looks_plain called looks) looks stack (done_entry said stamp x) (answered_owners called said stamp.number (view c.pass) (view q) x.0) kept
+  after_kept (look.Done said stamp) mine x kept = looked_kept e c q called said stamp mine is idle (looks_plain called looks) looks stack (done_entry said stamp x) (looked_owners called said stamp.number (view c.pass) (view q) x.0) kept
   after_kept (look.Contended a b) mine x kept = contended_kept c q mine stack x.2 kept
   after_kept look.NoMemory mine x kept = loaded_kept c q (flight.Refused called) mine stack x.0 (refused_kept e c called mine is idle kept) (looked_refused e c called is idle q mine stack x.0 kept.1)
 

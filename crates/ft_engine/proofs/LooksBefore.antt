@@ -17,7 +17,6 @@ use Rattle.ft_bank.specs.declared.bank.Bank.{Bank}
 use Rattle.ft_bank.specs.declared.pass.Pass.{Pass}
 use Rattle.ft_bank.specs.Passes.{view, DidNothing, IsPassOf}
 use Rattle.ft_bank.specs.PassSections.{Stack, stack_of, taken_in, nothing_taken}
-use Rattle.ft_bank.specs.Whole.{OnlyLoaded}
 use Rattle.ft_bank.proofs.BoxedSteps.{boxes_same}
 use Rattle.ft_bank.proofs.KnownAfterWrites.{same_work}
 use Rattle.ft_section.specs.declared.answers.Got.{Got}
@@ -36,7 +35,9 @@ use Rattle.ft_section.specs.Trying.{HasLetGo, SectionsAfter}
 use Rattle.ft_section.proofs.Goings.{notes_top}
 use Rattle.ft_section.proofs.MidstOfCall.{in_call_stays}
 use Rattle.ft_section.proofs.Resumes.{none_some}
-use Rattle.ft_search.proofs.ReadMidst.{LeavesSections, making_read, still_loaded}
+use Rattle.ft_search.specs.LookSteps.{OnlyLooked}
+use Rattle.ft_search.proofs.LookSteps.{loads_looked}
+use Rattle.ft_search.proofs.ReadMidst.{LeavesSections, making_looked, still_looked}
 use Rattle.ft_engine.specs.Answering.{HasCollectedFor, MakesEntry, MakesNoEntry, IsEndOf, IsTryOfCall, KnewLocks, IsLookedIfAny, settled}
 use Rattle.ft_bank_history.specs.Marks.{walked_after}
 use Rattle.ft_engine.specs.Asked.{IsOnContainers}
@@ -45,8 +46,8 @@ use Rattle.ft_engine.specs.Flights.{is_begin, objects_of}
 use Rattle.ft_table_calls.specs.TriesUnderLocks.{objects_by}
 use Rattle.ft_engine.specs.Keeping.{marks_after, section_marks}
 use Rattle.ft_engine.specs.Stacks.{StackAfter}
-use Rattle.ft_engine.proofs.Outcomes.{Outcome, answered_adds, before_adds, loaded_nothing, moved_then}
-use Rattle.ft_engine.proofs.Within.{WalkedBy, answered_owners, for_then, loaded_owners, looks_still, same_for, walked_none, within_for}
+use Rattle.ft_engine.proofs.Outcomes.{Outcome, before_adds, boxed_nothing, look_adds, moved_then}
+use Rattle.ft_engine.proofs.Within.{WalkedBy, for_then, looked_owners, looks_still, same_for, walked_none, within_for}
 use Rattle.ft_engine.proofs.SectionCalls.{nothing_entry, nothing_then, only_nothing, same_nothing}
 use Rattle.ft_engine.proofs.OwnAnswers.{for_before}
 
@@ -202,51 +203,51 @@ may_making b p objects may = ⊎_elim (λ (r : IsReady b p). ready_making b p r)
 pub may_pass : (b : Bank) (p : Pass) (objects : Objects) → MayTry b p objects → IsPassOf b p
 may_pass b p objects may = (may_making b p objects may).inside.0
 
-module _ (b : Bank) (p q : Pass) (pass : IsPassOf b q) (stack : stack_of q ≡ stack_of p) (l : OnlyLoaded (view p) (view q)) where
-  pub loaded_in : InCall (view p) (stack_of p) → InCall (view q) (stack_of q)
-  loaded_in i = subst (InCall (view q)) (sym stack) (in_call_stays (view p) (view q) (stack_of p) i l.work.pass.shape l.work.pass.locks l.work.pass.begun (still_loaded (view p) (view q) l i.still))
+module _ (b : Bank) (p q : Pass) (pass : IsPassOf b q) (stack : stack_of q ≡ stack_of p) (l : OnlyLooked (view p) (view q)) where
+  pub steps_in : InCall (view p) (stack_of p) → InCall (view q) (stack_of q)
+  steps_in i = subst (InCall (view q)) (sym stack) (in_call_stays (view p) (view q) (stack_of p) i l.boxed.work.pass.shape l.boxed.work.pass.locks l.boxed.work.pass.begun (still_looked (view p) (view q) l i.still))
 
-  pub loaded_making : IsMaking b p → IsMaking b q
-  loaded_making m = record {
-    inside = (pass, loaded_in m.inside.1);
+  pub steps_making : IsMaking b p → IsMaking b q
+  steps_making m = record {
+    inside = (pass, steps_in m.inside.1);
     free = λ none. subst (λ (s : Stack). NotesTop s.sections) (sym stack) (m.free (sym (ap (λ (s : Stack). s.mark) stack) ∙ none));
     waited = λ a e. subst (λ (s : Stack). AreSuspended s.sections) (sym stack) (m.waited a (sym (ap (λ (s : Stack). s.mark) stack) ∙ e));
   }
 
-  pub loaded_ready : IsReady b p → IsReady b q
-  loaded_ready r = record {
-    inside = (pass, loaded_in r.inside.1);
+  pub steps_ready : IsReady b p → IsReady b q
+  steps_ready r = record {
+    inside = (pass, steps_in r.inside.1);
     own = ap (λ (s : Stack). s.own) stack ∙ r.own;
     mark = ap (λ (s : Stack). s.mark) stack ∙ r.mark;
     top = λ outer top split.
         let t = r.top outer top (sym (ap (λ (s : Stack). s.sections) stack) ∙ split) in
-        (l.work.pass.locks top.locks.lower ∙ t.0, l.work.pass.locks top.locks.upper ∙ t.1);
+        (l.boxed.work.pass.locks top.locks.lower ∙ t.0, l.boxed.work.pass.locks top.locks.upper ∙ t.1);
   }
 
-  pub loaded_may : (objects : Objects) → MayTry b p objects → MayTry b q objects
-  loaded_may objects may =
+  pub steps_may : (objects : Objects) → MayTry b p objects → MayTry b q objects
+  steps_may objects may =
       ⊎_elim
-      (λ (r : IsReady b p). inl (loaded_ready r))
+      (λ (r : IsReady b p). inl (steps_ready r))
       (λ (w : IsWaiting b p objects). inr (record {
-        inside = (pass, loaded_in w.inside.1);
+        inside = (pass, steps_in w.inside.1);
         owner = w.owner;
         mark = ap (λ (s : Stack). s.mark) stack ∙ w.mark;
         suspended = subst (λ (s : Stack). AreSuspended s.sections) (sym stack) w.suspended;
         own = subst (λ (s : Stack). IsOwnFor (lower_of objects) (upper_of objects) s.own) (sym stack) w.own;
       })) may
 
-loaded_none : (p q : Pass) → DidNothing p q → OnlyLoaded (view p) (view q)
-loaded_none p q same = subst (OnlyLoaded (view p)) (sym same.1) (record { work = same_work (view p); words = refl; unboxed = λ o low has. refl; boxes = boxes_same (view p) })
+looked_none : (p q : Pass) → DidNothing p q → OnlyLooked (view p) (view q)
+looked_none p q same = subst (OnlyLooked (view p)) (sym same.1) (loads_looked (view p) (view p) p.possible (record { work = same_work (view p); words = refl; unboxed = λ o low has. refl; boxes = boxes_same (view p) }))
 
 pub looked_making : (b : Bank) (p q : Pass) (called : Call) (objects : Objects) (found : Option Look) → IsPlain called → MayTry b p objects → IsPassOf b q → stack_of q ≡ stack_of p → IsLookedIfAny called p q found → IsMaking b q
-looked_making b p q called objects None plain may pass stack x = loaded_making b p q pass stack (loaded_none p q x) (may_making b p objects may)
-looked_making b p q called objects (Some (look.Done said stamp)) plain may pass stack x = making_read b p q called said stamp.number plain.sections (may_making b p objects may) pass stack x.0
-looked_making b p q called objects (Some (look.Contended first second)) plain may pass stack x = loaded_making b p q pass stack x.2 (may_making b p objects may)
-looked_making b p q called objects (Some look.NoMemory) plain may pass stack x = loaded_making b p q pass stack x.0 (may_making b p objects may)
+looked_making b p q called objects None plain may pass stack x = steps_making b p q pass stack (looked_none p q x) (may_making b p objects may)
+looked_making b p q called objects (Some (look.Done said stamp)) plain may pass stack x = making_looked b p q called said stamp.number plain.sections (may_making b p objects may) pass stack x.0
+looked_making b p q called objects (Some (look.Contended first second)) plain may pass stack x = steps_making b p q pass stack x.2 (may_making b p objects may)
+looked_making b p q called objects (Some look.NoMemory) plain may pass stack x = steps_making b p q pass stack x.0 (may_making b p objects may)
 
 -- it is to be made under its locks
-pub looked_loaded : (p q : Pass) (called : Call) (found : Option Look) → settled found ≡ None → IsLookedIfAny called p q found → (part : List Act) × ((view q).log ≡ part ++ (view p).log) × OnlyLoaded (view p) (view q)
-looked_loaded p q called None none x = ([], ap (λ (v : View). v.log) x.1, loaded_none p q x)
+pub looked_loaded : (p q : Pass) (called : Call) (found : Option Look) → settled found ≡ None → IsLookedIfAny called p q found → (part : List Act) × ((view q).log ≡ part ++ (view p).log) × OnlyLooked (view p) (view q)
+looked_loaded p q called None none x = ([], ap (λ (v : View). v.log) x.1, looked_none p q x)
 looked_loaded p q called (Some (look.Done said stamp)) none x = absurd (let e : Some (step.Done said stamp) ≡ None = none in cc)
 looked_loaded p q called (Some (look.Contended first second)) none x = (x.0, x.1, x.2)
 looked_loaded p q called (Some look.NoMemory) none x = absurd (let e : Some step.NoMemory ≡ None = none in cc)
@@ -260,7 +261,7 @@ looked_tried b p q r hands called None result plain left made is x stack gone ow
 looked_tried b p q r hands called (Some (look.Contended first second)) result plain left made is x stack gone owners let_go = absurd (let e : None ≡ Some result = is in cc)
 looked_tried b p q r hands called (Some (look.Done said stamp)) result plain left made is x stack gone owners let_go =
     let same : step.Done said stamp ≡ result = some_same (step.Done said stamp) result is in
-    let entry = after_nothing called said stamp (view p) (view q) (view r) (answered_adds called said stamp (view p) (view q) x.1 left x.0) (only_nothing (view q) (view r) gone) in
+    let entry = after_nothing called said stamp (view p) (view q) (view r) (look_adds called said stamp (view p) (view q) x.1 left x.0) (only_nothing (view q) (view r) gone) in
     subst (IsTryOfCall b hands called p r) same (
       record {
         entry = entry;
@@ -274,16 +275,16 @@ looked_tried b p q r hands called (Some (look.Done said stamp)) result plain lef
         collected = plain.none (view p) (view r);
       },
       λ named names locked. absurd (true≢false (sym made ∙ locked)),
-      same_for hands called (view p) (view r) (owners_then (view p) (view q) (view r) (answered_owners called said stamp.number (view p) (view q) x.0) owners),
+      same_for hands called (view p) (view r) (owners_then (view p) (view q) (view r) (looked_owners called said stamp.number (view p) (view q) x.0) owners),
     )
 looked_tried b p q r hands called (Some look.NoMemory) result plain left made is x stack gone owners let_go =
     let same : step.NoMemory ≡ result = some_same step.NoMemory result is in
     subst (IsTryOfCall b hands called p r) same (
       record {
-        entry = nothing_then (view p) (view q) (view r) (loaded_nothing (view p) (view q) x.0) (only_nothing (view q) (view r) gone);
+        entry = nothing_then (view p) (view q) (view r) (boxed_nothing (view p) (view q) x.0.boxed) (only_nothing (view q) (view r) gone);
         gone = record { stack = let_go.stack ∙ ap (λ (s : Stack). with_own s nothing_taken) stack; may = let_go.may; resume = let_go.resume };
       },
-      same_for hands called (view p) (view r) (owners_then (view p) (view q) (view r) (loaded_owners (view p) (view q) x.0) owners),
+      same_for hands called (view p) (view r) (owners_then (view p) (view q) (view r) x.0.boxed.work.pass.owners owners),
       x.1,
     )
 
@@ -295,12 +296,12 @@ nothing_pass b q r pass same = (same.0 ∙ pass.0, ap (λ (v : View). v.shape) s
 pub looked_may : (b : Bank) (p q r : Pass) (called : Call) (objects : Objects) (found : Option Look) → settled found ≡ None → IsLookedIfAny called p q found → IsPassOf b q → stack_of q ≡ stack_of p → DidNothing q r → MayTry b p objects → MayTry b r objects
 looked_may b p q r called objects found none x pass stack same may =
     let l = looked_loaded p q called found none x in
-    loaded_may b q r (nothing_pass b q r pass same) same.2 (loaded_none q r same) objects (loaded_may b p q pass stack l.2 objects may)
+    steps_may b q r (nothing_pass b q r pass same) same.2 (looked_none q r same) objects (steps_may b p q pass stack l.2 objects may)
 
 pub looked_left : (p q r : Pass) (called : Call) (found : Option Look) → settled found ≡ None → IsLookedIfAny called p q found → DidNothing q r → 0 < (view p).left → 0 < (view r).left
 looked_left p q r called found none x same left =
     let l = looked_loaded p q called found none x in
-    subst (λ (n : ℕ). 0 < n) (sym (ap (λ (v : View). v.left) same.1 ∙ l.2.work.left)) left
+    subst (λ (n : ℕ). 0 < n) (sym (ap (λ (v : View). v.left) same.1 ∙ l.2.boxed.work.left)) left
 
 -- a call that isn't looked first
 unlooked : (called : Call) (p q r : Pass) (found : Option Look) → may_look called ≡ is_some found → IsLookedIfAny called p q found → DidNothing q r → may_look called ≡ false → view r ≡ view p
@@ -310,5 +311,5 @@ unlooked called p q r (Some answer) made x same locked = absurd (true≢false (s
 pub looked_then : (b : Bank) (hands : List (Option Cursor)) (called : Call) (p q r s : Pass) (found : Option Look) (result : Step) → may_look called ≡ is_some found → settled found ≡ None → IsLookedIfAny called p q found → stack_of q ≡ stack_of p → DidNothing q r → IsTryOfCall b hands called r s result → IsTryOfCall b hands called p s result
 looked_then b hands called p q r s found result made none x stack same tried =
     let l = looked_loaded p q called found none x in
-    try_after b hands called p r s l.0 result (subst (MakesNoEntry (view p)) (sym same.1) (loaded_nothing (view p) (view q) l.2)) (subst (SameOwners (view p)) (sym same.1) (loaded_owners (view p) (view q) l.2)) (ap (λ (v : View). v.log) same.1 ∙ l.1) (same.2 ∙ stack)
-    (λ o. ap (λ (v : View). has_lock o v.log) same.1 ∙ l.2.work.pass.locks o) (unlooked called p q r found made x same) tried
+    try_after b hands called p r s l.0 result (subst (MakesNoEntry (view p)) (sym same.1) (boxed_nothing (view p) (view q) l.2.boxed)) (subst (SameOwners (view p)) (sym same.1) l.2.boxed.work.pass.owners) (ap (λ (v : View). v.log) same.1 ∙ l.1) (same.2 ∙ stack)
+    (λ o. ap (λ (v : View). has_lock o v.log) same.1 ∙ l.2.boxed.work.pass.locks o) (unlooked called p q r found made x same) tried

@@ -1,5 +1,5 @@
 -- What the tries of calls on containers come to, in the words that all calls share.
-use Rattle.std.proofs.Common.{◌≡◌, ◌≤◌, ◌<◌, ◌+◌, ◌-◌, ℕ, zero, suc, Bool, true, false, true≢false, List, [], ◌∷◌, refl, sym, ap, ◌∙◌, subst, arith, ⊎_elim, inr, le_trans}
+use Rattle.std.proofs.Common.{◌≡◌, ◌≤◌, ◌<◌, ◌+◌, ◌-◌, ℕ, zero, suc, Bool, true, false, true≢false, List, [], ◌∷◌, ◌++◌, refl, sym, ap, ◌∙◌, subst, arith, ⊎_elim, inr, le_trans}
 use Rattle.std.specs.Prelude.{Option, Some, None}
 use Rattle.ft_model.specs.declared.call.Call.{Call}
 use Rattle.ft_model.specs.declared.reply.Raise.TheVariants as raise
@@ -20,8 +20,9 @@ use Rattle.ft_bank.specs.declared.takings.Took.{Took}
 use Rattle.ft_bank.specs.declared.takings.Took.TheVariants as took
 use Rattle.ft_bank.specs.Answered.{Answered}
 use Rattle.ft_bank.specs.SameBoxes.{SameReferences}
+use Rattle.ft_bank.specs.LastLoads.{IsLastLoad}
 use Rattle.ft_bank.specs.Logs.{HasGrown, StaysOnline}
-use Rattle.ft_bank.specs.Whole.{OnlyBoxed, OnlyLoaded, SamePass, Wrote}
+use Rattle.ft_bank.specs.Whole.{OnlyBoxed, OnlyLoaded, SamePass, SameWork, Wrote}
 use Rattle.ft_bank.proofs.KnownAfterWrites.{loaded_boxed}
 use Rattle.ft_section.specs.declared.answers.Objects.{Objects}
 use Rattle.ft_section.specs.declared.answers.Stamp.{Stamp}
@@ -29,6 +30,7 @@ use Rattle.ft_section.specs.declared.answers.Step.{Step}
 use Rattle.ft_section.specs.declared.answers.Step.TheVariants as step
 use Rattle.ft_section.specs.Locking.{FoundOwner, OnlyLocked}
 use Rattle.ft_section.specs.LockTakings.{IsOf}
+use Rattle.ft_search.specs.KeyLooks.{AnsweredByLook}
 use Rattle.ft_search.specs.MadeCalls.{MadeAs}
 use Rattle.ft_search.proofs.Calling.{loaded_same}
 use Rattle.ft_table_calls.specs.declared.adding.Added.{Added}
@@ -73,41 +75,47 @@ wrote_entry called said stamp v w is x = record {
   cursors = λ number other. x.pass.cursors number;
 }
 
-pub answered_adds : (called : Call) (said : Reply) (stamp : Stamp) (v w : View) → stamp.wrote ≡ false → 0 < v.left → Answered called said stamp.number v w → MakesEntry called said stamp v w
-answered_adds called said stamp v w is left x =
-    let u = x.before in
-    let l = x.loaded.work in
+-- an entry that isn't a write, after steps that leave what the pass is at
+entry_adds : (called : Call) (said : Reply) (stamp : Stamp) (v u w : View) (part : List Act) → stamp.wrote ≡ false → 0 < v.left → SameWork v u → u.log ≡ part ++ v.log → IsLastLoad stamp.number part → w ≡ view_after (Answer called said stamp.number) u → seen_writes v ≤ stamp.number → MakesEntry called said stamp v w
+entry_adds called said stamp v u w part is left l own counted answered least =
     record {
       pass = record {
-        number = ap (λ (z : View). z.number) x.answered ∙ l.pass.number;
-        next = ap (λ (z : View). z.next) x.answered ∙ l.pass.next;
-        parts = ap (λ (z : View). z.parts) x.answered ∙ l.pass.parts;
-        shape = ap (λ (z : View). z.shape) x.answered ∙ l.pass.shape;
-        lists = ap (λ (z : View). z.lists) x.answered ∙ l.pass.lists;
-        online = λ on. subst (λ (n : ℕ). 0 < n) (sym (ap (λ (z : View). announces z.log) x.answered ∙ l.pass.announced)) on;
-        floor = ap (λ (z : View). z.has_floor) x.answered ∙ l.pass.floor;
-        since = ap (λ (z : View). at_floor z.log) x.answered ∙ l.pass.since;
-        seen = subst (λ (z : View). seen_writes v ≤ seen_writes z) (sym x.answered) (le_trans l.pass.seen (seen_up (Answer called said stamp.number) u));
-        grown = subst (λ (z : View). HasGrown v z) (sym x.answered) (λ old was. inr (l.pass.grown old was));
-        stays_online = subst (λ (z : View). StaysOnline v z) (sym x.answered) (λ here. ap presence_after_entry (l.pass.stays_online here));
+        number = ap (λ (z : View). z.number) answered ∙ l.pass.number;
+        next = ap (λ (z : View). z.next) answered ∙ l.pass.next;
+        parts = ap (λ (z : View). z.parts) answered ∙ l.pass.parts;
+        shape = ap (λ (z : View). z.shape) answered ∙ l.pass.shape;
+        lists = ap (λ (z : View). z.lists) answered ∙ l.pass.lists;
+        online = λ on. subst (λ (n : ℕ). 0 < n) (sym (ap (λ (z : View). announces z.log) answered ∙ l.pass.announced)) on;
+        floor = ap (λ (z : View). z.has_floor) answered ∙ l.pass.floor;
+        since = ap (λ (z : View). at_floor z.log) answered ∙ l.pass.since;
+        seen = subst (λ (z : View). seen_writes v ≤ seen_writes z) (sym answered) (le_trans l.pass.seen (seen_up (Answer called said stamp.number) u));
+        grown = subst (λ (z : View). HasGrown v z) (sym answered) (λ old was. inr (l.pass.grown old was));
+        stays_online = subst (λ (z : View). StaysOnline v z) (sym answered) (λ here. ap presence_after_entry (l.pass.stays_online here));
       };
-      entries = ap (λ (z : View). z.entries) x.answered ∙ (ap (λ (e : Entry). e ∷ u.entries) (entry_as called said stamp false is) ∙ ap (λ (es : List Entry). made_entry called said stamp ∷ es) l.entries);
+      entries = ap (λ (z : View). z.entries) answered ∙ (ap (λ (e : Entry). e ∷ u.entries) (entry_as called said stamp false is) ∙ ap (λ (es : List Entry). made_entry called said stamp ∷ es) l.entries);
       left =
-          let a : w.left ≡ u.left - 1 = ap (λ (z : View). z.left) x.answered in
+          let a : w.left ≡ u.left - 1 = ap (λ (z : View). z.left) answered in
           let b = l.left in
           let e : v.left ≡ suc w.left = omega (arith, a, b, left) in e;
-      seen = x.seen;
+      seen = least;
       loaded = λ _. record {
         later = [];
         answer = Answer called said stamp.number;
-        part = x.part;
-        own = ap (λ (z : View). z.log) x.answered ∙ ap (λ (log : List Act). Answer called said stamp.number ∷ log) x.own;
+        part = part;
+        own = ap (λ (z : View). z.log) answered ∙ ap (λ (log : List Act). Answer called said stamp.number ∷ log) own;
         answers = (refl, refl);
-        loaded = x.counted;
+        loaded = counted;
       };
       shows = λ wrote. absurd (true≢false (sym wrote ∙ is));
-      cursors = λ number other. ap (λ (z : View). cursor_in number z.log) x.answered ∙ l.pass.cursors number;
+      cursors = λ number other. ap (λ (z : View). cursor_in number z.log) answered ∙ l.pass.cursors number;
     }
+
+pub answered_adds : (called : Call) (said : Reply) (stamp : Stamp) (v w : View) → stamp.wrote ≡ false → 0 < v.left → Answered called said stamp.number v w → MakesEntry called said stamp v w
+answered_adds called said stamp v w is left x = entry_adds called said stamp v x.before w x.part is left x.loaded.work x.own x.counted x.answered x.seen
+
+-- after the steps of a look
+pub look_adds : (called : Call) (said : Reply) (stamp : Stamp) (v w : View) → stamp.wrote ≡ false → 0 < v.left → AnsweredByLook called said stamp.number v w → MakesEntry called said stamp v w
+look_adds called said stamp v w is left x = entry_adds called said stamp v x.before w x.part is left x.looked.boxed.work x.own x.counted x.answered x.seen
 
 made_adds : (called : Call) (said : Reply) (stamp : Stamp) (v w : View) → 0 < v.left → MadeAs called said stamp v w → MakesEntry called said stamp v w
 made_adds called said stamp v w left m =

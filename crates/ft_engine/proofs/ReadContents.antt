@@ -55,7 +55,9 @@ use Rattle.ft_section.specs.Ready.{IsStill}
 use Rattle.ft_search.specs.Floors.{LooksWithFloor}
 use Rattle.ft_search.specs.Rounds.{kind_by}
 use Rattle.ft_search.proofs.ReadMidst.{still_loaded}
-use Rattle.ft_search.proofs.Rounding.{looks_append, looks_did}
+use Rattle.ft_search.proofs.LoadedLooks.{looks_append, looks_did}
+use Rattle.ft_search.proofs.LookMoments.{value_lasts, Lasts}
+use Rattle.ft_search.proofs.LookSteps.{loads_are_steps}
 use Rattle.ft_search.specs.KeyLooks.{AreLooks}
 use Rattle.ft_search.proofs.Running.{did_log, did_none, did_trans}
 use Rattle.ft_search.proofs.Undisturbed.{among_found}
@@ -170,21 +172,21 @@ module _ (w : View) (part : List Act) (possible : ∥ IsReachable w ∥₁) (l :
   abbrev ws : List ℕ
   ws = floor_words w.shape w.number w.log
 
-  -- each load found the word that the pass knows
-  found_known : (a : Act) (f : ℕ) → ((n : ℕ) → Reports a n → f ≡ n) → Among a part → f ≡ slice_index ws (at w.shape (place a))
-  found_known a f says m =
+  -- each load of a word that no look changes found the word that the pass knows
+  found_known : (a : Act) (f : ℕ) → Lasts (place a) → ((n : ℕ) → Reports a n → f ≡ n) → Among a part → f ≡ slice_index ws (at w.shape (place a))
+  found_known a f lasts says m =
       ∥∥₁_elim possible (ℕ_set f (slice_index ws (at w.shape (place a))))
-      (λ p. says (word w.shape p.0 (place a)) (among_found w part p l a m) ∙ ap (λ (xs : List ℕ). slice_index xs (at w.shape (place a))) (sym ((floored w.shape p.0 p.2.0 p.1 w p.2.1).has l.floor).1))
+      (λ p. says (word w.shape p.0 (place a)) (among_found w part p l a lasts m) ∙ ap (λ (xs : List ℕ). slice_index xs (at w.shape (place a))) (sym ((floored w.shape p.0 p.2.0 p.1 w p.2.1).has l.floor).1))
 
   agrees_known : (o : ℕ) → Agrees w.shape o part (picture w.shape o ws)
   agrees_known o =
       let k = w.shape in
       record {
-        root = λ f m. found_known (ReadRoot o f) f (λ n says. says) m ∙ sym (block_at k o ws 0 (omega arith));
-        block = λ i f low m. found_known (ReadBlock o i f) f (λ n says. says) m ∙ sym (block_at k o ws i low);
+        root = λ f m. found_known (ReadRoot o f) f tt (λ n says. says) m ∙ sym (block_at k o ws 0 (omega arith));
+        block = λ i f low m. found_known (ReadBlock o i f) f tt (λ n says. says) m ∙ sym (block_at k o ws i low);
         table = λ t i f is low names m.
             let root : root_of k o ws ≡ suc t = sym (block_at k o ws 0 (omega arith)) ∙ names in
-            found_known (ReadTable t i f) f (λ n says. says) m ∙ (sym (table_at k t ws i low) ∙ ap (λ (r : ℕ). slice_index (inner k r ws) i) (sym root));
+            found_known (ReadTable t i f) f tt (λ n says. says) m ∙ (sym (table_at k t ws i low) ∙ ap (λ (r : ℕ). slice_index (inner k r ws) i) (sym root));
       }
 
   -- each box that the words of a container name is one of the bank
@@ -208,7 +210,7 @@ module _ (w : View) (part : List Act) (possible : ∥ IsReachable w ∥₁) (l :
   pub read_known : (o : ℕ) → o < container_count w.shape → AgreesRead w.shape o part (picture w.shape o ws) (box_word_in w.shape ws)
   read_known o low = (
     agrees_known o,
-    λ b names. (names_known o b low names, λ i f which m. found_known (ReadBox b i f) f (λ n says. says) m),
+    λ b names. (names_known o b low names, λ i f which m. found_known (ReadBox b i f) f (value_lasts b i which) (λ n says. says) m),
   )
 
 -- ---- a caller
@@ -280,7 +282,7 @@ module _ (e : Engine) (c : Caller) (q : Pass) (all : List Shown) (is : IsCallerO
   looks_now has = record {
     older = (view c.pass).log;
     is = did_log r.0 c.pass q r.2;
-    looks = r.1;
+    looks = loads_are_steps r.0 r.1;
     floor = only_loaded.work.pass.floor ∙ has;
     still = read_steady.still.even;
   }

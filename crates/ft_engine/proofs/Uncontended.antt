@@ -27,7 +27,7 @@ use Rattle.ft_list.proofs.Undisturbed.{floor_items_stand}
 use Rattle.ft_section.specs.declared.answers.Look.{Look}
 use Rattle.ft_section.specs.declared.answers.Look.TheVariants as look
 use Rattle.ft_section.specs.declared.answers.Objects.{Objects}
-use Rattle.ft_section.specs.Ready.{IsReady, IsWaiting, MayTry}
+use Rattle.ft_section.specs.Ready.{IsReady, IsStill, IsWaiting, MayTry}
 use Rattle.ft_engine.specs.Answering.{IsLooked, IsUncontended, IsLookedIfAny}
 use Rattle.ft_engine.specs.Contentions.{StopsAtOne, StopsCall, StopsIndex, StopsKeyed, StopsList}
 use Rattle.ft_dict.specs.DictMaking.{key_of_dict}
@@ -71,10 +71,10 @@ module _ (w : View) (part : List Act) (p : IsReachable w) (l : LooksWithFloor w 
   call_stands hands (call.Await thread index) a b names stops = stops
   call_stands hands call.Dump a b names stops = stops
 
--- the loads of a contended look
+-- the steps of a contended look
 module _ (called : Call) (p q : Pass) (a b : ℕ) (still : (o : ℕ) → is_writing o (view p).log ≡ false) (x : IsLooked called (view p) (view q) (look.Contended a b)) where
   with_floor : (view p).has_floor ≡ true → LooksWithFloor (view q) x.0
-  with_floor has = record { older = (view p).log; is = x.1; looks = x.4; floor = x.2.work.pass.floor ∙ has; still = λ o. x.2.work.pass.writes o ∙ still o }
+  with_floor has = record { older = (view p).log; is = x.1; looks = x.4; floor = x.2.boxed.work.pass.floor ∙ has; still = λ o. x.2.boxed.work.pass.writes o ∙ still o }
 
   pub never_contended : ((part : List Act) → IsReachable (view q) → LooksWithFloor (view q) part → StopsCall (view q).shape called a b part → ⊥) → (view p).has_floor ≡ false
   never_contended stands = by (view p).has_floor refl
@@ -83,10 +83,10 @@ module _ (called : Call) (p q : Pass) (a b : ℕ) (still : (o : ℕ) → is_writ
       by false e = refl
       by true e =
           absurd (∥∥₁_elim q.possible (λ y z. absurd y)
-          (λ (pos : IsReachable (view q)). stands x.0 pos (with_floor e) (subst (λ (k : Shape). StopsCall k called a b x.0) (sym x.2.work.pass.shape) x.3)))
+          (λ (pos : IsReachable (view q)). stands x.0 pos (with_floor e) (subst (λ (k : Shape). StopsCall k called a b x.0) (sym x.2.boxed.work.pass.shape) x.3)))
 
-still_may : (b : Bank) (p : Pass) (objects : Objects) → MayTry b p objects → (o : ℕ) → is_writing o (view p).log ≡ false
-still_may b p objects may = ⊎_elim (λ (r : IsReady b p). r.inside.1.still.even) (λ (w : IsWaiting b p objects). w.inside.1.still.even) may
+pub still_may : (b : Bank) (p : Pass) (objects : Objects) → MayTry b p objects → IsStill (view p)
+still_may b p objects may = ⊎_elim (λ (r : IsReady b p). r.inside.1.still) (λ (w : IsWaiting b p objects). w.inside.1.still) may
 
 -- ---- a look before a try
 
@@ -94,7 +94,7 @@ pub try_stands : (b : Bank) (p q : Pass) (hands : List (Option Cursor)) (called 
 try_stands b p q hands called objects None names may x same = tt
 try_stands b p q hands called objects (Some (look.Done said stamp)) names may x same = tt
 try_stands b p q hands called objects (Some (look.Contended first second)) names may x same =
-    never_contended called p q first second (still_may b p objects may) x (λ part pos l stops. call_stands (view q) part pos l hands called first second (subst (λ (k : Shape). IsCallIn k hands called) (sym same) names) stops)
+    never_contended called p q first second (still_may b p objects may).even x (λ part pos l stops. call_stands (view q) part pos l hands called first second (subst (λ (k : Shape). IsCallIn k hands called) (sym same) names) stops)
 try_stands b p q hands called objects (Some look.NoMemory) names may x same = tt
 
 -- a look as a call of its own

@@ -28,6 +28,7 @@ use Rattle.ft_section.specs.declared.answers.Step.{Step}
 use Rattle.ft_section.specs.declared.answers.Step.TheVariants as step
 use Rattle.ft_section.specs.Locking.{LocksWithin, OnlyLocked}
 use Rattle.ft_section.specs.LockTakings.{IsOf}
+use Rattle.ft_search.specs.KeyLooks.{AnsweredByLook}
 use Rattle.ft_search.specs.MadeCalls.{MadeAs}
 use Rattle.ft_table_calls.specs.Adding.{Retires, TriedTaking}
 use Rattle.ft_bank_history.proofs.Walked.{walked_plain}
@@ -72,6 +73,10 @@ loaded_owners v w l = l.work.pass.owners
 pub answered_owners : (called : Call) (said : Reply) (n : ℕ) (v w : View) → Answered called said n v w → SameOwners v w
 answered_owners called said n v w x =
     owners_then v x.before w x.loaded.work.pass.owners (subst (SameOwners x.before) (sym x.answered) (record { had = refl; found = refl }))
+
+pub looked_owners : (called : Call) (said : Reply) (n : ℕ) (v w : View) → AnsweredByLook called said n v w → SameOwners v w
+looked_owners called said n v w x =
+    owners_then v x.before w x.looked.boxed.work.pass.owners (subst (SameOwners x.before) (sym x.answered) (record { had = refl; found = refl }))
 
 pub cursor_owners : (called : Call) (said : Reply) (n number : ℕ) (left : Cursor) (v w : View) → AnsweredCursor called said n number left v w → SameOwners v w
 cursor_owners called said n number left v w x =

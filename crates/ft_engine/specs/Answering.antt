@@ -21,12 +21,11 @@ use Rattle.ft_trace.specs.Hands.{cursor_in}
 use Rattle.ft_bank.specs.declared.bank.Bank.{Bank}
 use Rattle.ft_bank.specs.declared.pass.Pass.{Pass}
 use Rattle.ft_bank.specs.declared.takings.Took.TheVariants as took
-use Rattle.ft_bank.specs.Answered.{Answered}
 use Rattle.ft_bank.specs.LastLoads.{IsLastLoad}
 use Rattle.ft_bank.specs.Logs.{HasGrown, StaysOnline}
 use Rattle.ft_bank.specs.Passes.{shape_of, view, DidNothing}
 use Rattle.ft_bank.specs.PassSections.{stack_of}
-use Rattle.ft_bank.specs.Whole.{OnlyBoxed, OnlyLoaded}
+use Rattle.ft_bank.specs.Whole.{OnlyBoxed}
 use Rattle.ft_boxes.specs.Merging.{LeavesNoIdleBox, MergesIdleBoxes}
 use Rattle.ft_qsbr.specs.Collecting.{Collected}
 use Rattle.ft_section.specs.declared.answers.Got.{Got}
@@ -43,7 +42,8 @@ use Rattle.ft_section.specs.Ready.{HasTop, IsReady, IsWaiting, MayTry, MayResume
 use Rattle.ft_section.specs.LockTakings.{IsOf, lower_of}
 use Rattle.ft_section.specs.Trying.{HasLetGo}
 use Rattle.ft_table_calls.specs.Adding.{TriedTaking}
-use Rattle.ft_search.specs.KeyLooks.{AreLooks}
+use Rattle.ft_search.specs.KeyLooks.{AnsweredByLook}
+use Rattle.ft_search.specs.LookSteps.{AreLookSteps, OnlyLooked}
 use Rattle.ft_bank_history.specs.Marks.{walked_after}
 use Rattle.ft_engine.specs.Callers.{AreOver}
 use Rattle.ft_engine.specs.Contentions.{StopsCall, WasContended, may_look}
@@ -258,14 +258,14 @@ IsTryOfCall b hands called p q step.NoMemory =
 -- ---- looks
 
 -- What a look at containers answers, in the words that all looks share. It gave a reply, at the counter that it loaded
--- last; or it has only loaded words, and where it is contended, among them those that stopped it; or there was no memory
--- for the copy that it answers with.
+-- last; or it has only taken steps of looks, loads and those that raise and drop the counts of boxes, and where it is
+-- contended, among them those that stopped it; or there was no memory for the copy that it answers with.
 abbrev pub IsLooked : Call → View → View → Look → Type 0
-IsLooked called v w (look.Done said stamp) = Answered called said stamp.number v w × (stamp.wrote ≡ false)
+IsLooked called v w (look.Done said stamp) = AnsweredByLook called said stamp.number v w × (stamp.wrote ≡ false)
 IsLooked called v w (look.Contended first second) =
-    (part : List Act) × (w.log ≡ part ++ v.log) × OnlyLoaded v w × StopsCall v.shape called first second part
-    × AreLooks part
-IsLooked called v w look.NoMemory = OnlyLoaded v w × (copies called ≡ true)
+    (part : List Act) × (w.log ≡ part ++ v.log) × OnlyLooked v w × StopsCall v.shape called first second part
+    × AreLookSteps part
+IsLooked called v w look.NoMemory = OnlyLooked v w × (copies called ≡ true)
 
 -- it isn't contended
 abbrev pub IsUncontended : Look → Type 0

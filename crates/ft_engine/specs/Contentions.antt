@@ -1,5 +1,5 @@
--- Calls that are made without a lock, and what stops them: another pass writes what they read. (PEP 703, Optimistically
--- avoiding locking)
+-- Calls that are made without a lock, and what stops them: another pass writes what they read, or raises or drops the count
+-- of a box that they raise. (PEP 703, Optimistically avoiding locking)
 use Rattle.std.specs.Prelude.{◌≡◌, ◌⊎◌, ℕ, ℤ, pos, negsuc, Bool, false, not, List, ◌++◌, Option, Some, None}
 use Rattle.ft_model.specs.declared.call.Call.{Call}
 use Rattle.ft_model.specs.declared.call.Call.TheVariants as call
@@ -34,13 +34,14 @@ abbrev pub StopsAtOne : ℕ → Option ℕ → ℕ → ℕ → List Act → Type
 StopsAtOne o None a b part = StopsAtVersion o a b part
 StopsAtOne o (Some m) a b part = StopsAtVersion o a b part ⊎ StopsAtVersion m a b part
 
--- of a call that names a key the version is that of the key's own entry, or the container's where its root was read 0
+-- Of a call that names a key the version is that of the key's own entry, or the container's where its root was read 0. Or it
+-- is the count of the box that the entry names.
 abbrev pub StopsKeyed : Shape → ℕ → Option ℕ → Option Key → ℕ → ℕ → List Act → Type 0
 StopsKeyed k o other None a b part = StopsAtOne o other a b part
 StopsKeyed k o other (Some key) a b part = Stops k o key a b part
 
--- of `l[i]` it is that of the very item, or the list's where its root was read 0; the list's where the index is
--- negative
+-- Of `l[i]` it is that of the very item, or the list's where its root was read 0, or the count of the box that the item
+-- names; the list's where the index is negative.
 abbrev pub StopsIndex : ℕ → ℤ → ℕ → ℕ → List Act → Type 0
 StopsIndex o (pos index) a b part = StopsItemLook o index a b part
 StopsIndex o (negsuc below) a b part = StopsAtVersion o a b part
@@ -49,8 +50,8 @@ abbrev pub StopsList : ℕ → ListCall → ℕ → ℕ → List Act → Type 0
 StopsList o (list.Get index) a b part = StopsIndex o index a b part
 StopsList o lc a b part = StopsAtOne o (other_list lc) a b part
 
--- These loads stop a look at what the call names: two loads of one version gave a and then b, and a is odd or they
--- differ.
+-- These steps stop a look at what the call names: two loads of one version gave a and then b, and a is odd or they differ;
+-- or the count of a box that was read there moved from a to b, or a and b are both the word of a dead box.
 abbrev pub StopsCall : Shape → Call → ℕ → ℕ → List Act → Type 0
 StopsCall k (call.Dict o dc) a b part = StopsKeyed k o (other_dict dc) (key_of_dict dc) a b part
 StopsCall k (call.List o lc) a b part = StopsList o lc a b part

@@ -7,8 +7,10 @@ ghost use Rattle.ft_model.specs.declared.script.Kind.TheVariants as kind;
 ghost use Rattle.ft_model.specs.Calls.{cursor_of_dict, other_dict};
 ghost use Rattle.ft_model.specs.Landed.{is_landed_dict};
 ghost use Rattle.ft_trace.specs.Acts.{announces};
+ghost use Rattle.ft_trace.specs.Boxes.{IsSettled};
 ghost use Rattle.ft_bank.specs.Passes.{shape_of, view, IsPassOf};
 ghost use Rattle.ft_bank.specs.PassSections.{stack_of};
+ghost use Rattle.ft_bank.specs.SameBoxes.{HoldsFew};
 ghost use Rattle.ft_bank.specs.KeyHashes.{IsKeyIn};
 ghost use Rattle.ft_section.specs.declared.answers.Objects.TheVariants.{One};
 ghost use Rattle.ft_section.specs.Ready.{MayTry};
@@ -44,6 +46,8 @@ fn look_any_dict(
     requires landed { is_landed_dict call.now ≡ true }
     requires online { 0 < announces (view pass.old).log }
     requires left { 0 < (view pass.old).left }
+    requires settled { IsSettled (view pass.old).log }
+    requires few { HoldsFew (view pass.old) }
     ensures pass { IsPassOf bank.now pass.new }
     ensures sections { stack_of pass.new ≡ stack_of pass.old }
     ensures looked { IsLookedIfAny (calls.Dict d call.now) pass.old pass.new result }
@@ -90,6 +94,8 @@ pub(crate) fn look_dict(
     requires landed { is_landed_dict call.now ≡ true }
     requires online { 0 < announces (view pass.old).log }
     requires left { 0 < (view pass.old).left }
+    requires settled { IsSettled (view pass.old).log }
+    requires few { HoldsFew (view pass.old) }
     ensures pass { IsPassOf bank.now pass.new }
     ensures sections { stack_of pass.new ≡ stack_of pass.old }
     ensures looked { IsLookedIfAny (calls.Dict d call.now) pass.old pass.new result }

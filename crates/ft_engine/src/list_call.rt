@@ -7,8 +7,10 @@ ghost use Rattle.ft_model.specs.declared.cursor.Cursor.{Cursor};
 ghost use Rattle.ft_model.specs.declared.script.Kind.TheVariants as kind;
 ghost use Rattle.ft_model.specs.Calls.{cursor_of_list, other_list};
 ghost use Rattle.ft_trace.specs.Acts.{announces};
+ghost use Rattle.ft_trace.specs.Boxes.{IsSettled};
 ghost use Rattle.ft_bank.specs.Passes.{shape_of, view, IsPassOf};
 ghost use Rattle.ft_bank.specs.PassSections.{stack_of};
+ghost use Rattle.ft_bank.specs.SameBoxes.{HoldsFew};
 ghost use Rattle.ft_section.specs.declared.answers.Objects.TheVariants.{One};
 ghost use Rattle.ft_section.specs.Ready.{MayTry};
 ghost use Rattle.ft_engine.specs.Callers.{IsOfKindIn};
@@ -38,6 +40,8 @@ fn look_any_list(
     requires names { AreOfKindIn (shape_of bank.now) kind.List l (other_list call.now) }
     requires online { 0 < announces (view pass.old).log }
     requires left { 0 < (view pass.old).left }
+    requires settled { IsSettled (view pass.old).log }
+    requires few { HoldsFew (view pass.old) }
     ensures pass { IsPassOf bank.now pass.new }
     ensures sections { stack_of pass.new ≡ stack_of pass.old }
     ensures looked { IsLookedIfAny (calls.List l call.now) pass.old pass.new result }
@@ -79,6 +83,8 @@ pub(crate) fn look_list(
     requires names { AreOfKindIn (shape_of bank.now) kind.List l (other_list call.now) }
     requires online { 0 < announces (view pass.old).log }
     requires left { 0 < (view pass.old).left }
+    requires settled { IsSettled (view pass.old).log }
+    requires few { HoldsFew (view pass.old) }
     ensures pass { IsPassOf bank.now pass.new }
     ensures sections { stack_of pass.new ≡ stack_of pass.old }
     ensures looked { IsLookedIfAny (calls.List l call.now) pass.old pass.new result }

@@ -4,8 +4,10 @@ ghost use Rattle.ft_model.specs.declared.call.Call.{Call as AskedCall};
 ghost use Rattle.ft_model.specs.declared.cursor.Cursor.{Cursor};
 ghost use Rattle.ft_model.specs.declared.entry.Entry.{Entry as NamedEntry};
 ghost use Rattle.ft_trace.specs.Acts.{announces};
+ghost use Rattle.ft_trace.specs.Boxes.{IsSettled};
 ghost use Rattle.ft_bank.specs.Passes.{shape_of, view, IsPassOf};
 ghost use Rattle.ft_bank.specs.PassSections.{stack_of};
+ghost use Rattle.ft_bank.specs.SameBoxes.{HoldsFew};
 ghost use Rattle.ft_section.specs.declared.answers.Look.TheVariants as answers;
 ghost use Rattle.ft_engine.specs.Answering.{IsLooked, IsUncontended, IsLookedIfAny};
 ghost use Rattle.ft_engine.specs.Attempts.{MayAttempt, StaysCaller, after_look, flight_looked, entries_with_look};
@@ -52,6 +54,8 @@ pub(crate) fn look_call(bank: &Bank, pass: &mut Pass, alloc: Global, call: &Call
     requires names { (hands : List (Option Cursor)) × IsCallIn (shape_of bank.now) hands call.now }
     requires online { 0 < announces (view pass.old).log }
     requires left { 0 < (view pass.old).left }
+    requires settled { IsSettled (view pass.old).log }
+    requires few { HoldsFew (view pass.old) }
     ensures pass { IsPassOf bank.now pass.new }
     ensures sections { stack_of pass.new ≡ stack_of pass.old }
     ensures looked { IsLookedIfAny call.now pass.old pass.new result }
@@ -121,13 +125,15 @@ impl Engine {
         caller.is_idle() && is_looking(call) && self.may_attempt(caller, call)
     }
 
-    /// A look: the call, made without a lock (PEP 703, Optimistically avoiding locking). It takes no lock and changes
-    /// nothing in the bank; only `Done` adds an entry.
+    /// A look: the call, made without a lock (PEP 703, Optimistically avoiding locking). It takes no lock, and
+    /// changes nothing in the bank but the counts of boxes that it reads, which it raises and drops again; only `Done`
+    /// adds an entry.
     ///
     /// # Errors
     ///
     /// `Contended` where two loads of one version gave an odd number or two different ones, since another thread
-    /// writes; the caller may look again, or attempt the call. `NoMemory` where memory for a copy ran out: the caller
+    /// writes, or where the count of a box that was read moved when it should be raised, or the box was dead; the caller may
+    /// look again, or attempt the call. `NoMemory` where memory for a copy ran out: the caller
     /// is to give up.
     #[inline(always)]
     pub fn look(&self, alloc: Global, caller: &mut Caller, call: &Call) -> Look

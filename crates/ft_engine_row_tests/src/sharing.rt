@@ -117,7 +117,8 @@ const ALONE: [ScriptedCalls<'static>; 5] = [
             Read("A", 1, "append l 1000", FULL),
         ],
     },
-    // A dict that is updated by itself stays as it is; a list that is extended by itself has each of its values twice.
+    // A dict that is updated by itself stays as it is, and one that is copied to itself has its values in their places; a list
+    // that is extended by itself has each of its values twice.
     ScriptedCalls {
         name: "a container and itself",
         declarations: "dict d\nlist l\n",
@@ -127,6 +128,8 @@ const ALONE: [ScriptedCalls<'static>; 5] = [
             Write("A", 1, "set d 1 1000", "ok"),
             Write("A", 1, "set d 2 \"a\"", "ok"),
             Write("A", 1, "update d d", "ok"),
+            Read("A", 1, "append l 1000", FULL),
+            Write("A", 1, "copyto d d", "ok"),
             Read("A", 1, "append l 1000", FULL),
             Read("A", 1, "items d", "{1: 1000, 2: \"a\"}"),
             Write("A", 1, "del d 1", "ok"),

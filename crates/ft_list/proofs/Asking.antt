@@ -1,5 +1,5 @@
 -- From what a look-up of an item shows to what a call may answer.
-use Rattle.std.proofs.Common.{◌≡◌, ℕ, ◌<◌, List, ◌∷◌, ◌++◌, Option, Some, None, sym, ap, ◌∙◌, subst, append_assoc, inl}
+use Rattle.std.proofs.Common.{◌≡◌, ℕ, ◌<◌, List, ◌++◌, Option, Some, None, ap, ◌∙◌, inl}
 use Rattle.std.specs.Prelude.{pos, ◌⊎◌}
 use Rattle.ft_model.specs.declared.call.Call.TheVariants as call
 use Rattle.ft_model.specs.declared.call.ListCall.TheVariants as list
@@ -8,7 +8,6 @@ use Rattle.ft_model.specs.declared.script.Kind.TheVariants as kind
 use Rattle.ft_layout.specs.declared.slot.Stored.TheVariants.{Empty, Plain}
 use Rattle.ft_layout.specs.Words.{IsStored}
 use Rattle.ft_trace.specs.declared.Act.{Act}
-use Rattle.ft_trace.specs.declared.Act.TheVariants.{ReadCounter}
 use Rattle.ft_trace.specs.declared.Shape.{Shape}
 use Rattle.ft_trace.specs.declared.View.{View}
 use Rattle.ft_trace.specs.Addresses.{container_count}
@@ -18,24 +17,14 @@ use Rattle.ft_trace.specs.Traces.{IsReachable}
 use Rattle.ft_trace.specs.ContainerStates.{kind_in}
 use Rattle.ft_bank.specs.Reads.{IsShown}
 use Rattle.ft_bank.specs.Shown.{MayAsk}
-use Rattle.ft_bank.specs.Whole.{OnlyLoaded}
 use Rattle.ft_bank.proofs.ShownReplies.{items_are_shown, items_are_read, past_items_are_shown}
-use Rattle.ft_search.specs.KeyLooks.{AreLooks}
-use Rattle.ft_search.proofs.Asking.{looks_own, looks_newer}
+use Rattle.ft_search.specs.LookSteps.{AreLookSteps, OnlyLooked}
+use Rattle.ft_search.proofs.Asking.{may_ask_on}
 use Rattle.ft_list.specs.ItemLooks.{ShowsItem, ShowsPast, StopsItemLook, IsItemContended}
 
-module _ (v w : View) (k : Shape) (o index n : ℕ) (part : List Act) (loaded : OnlyLoaded v w) (looks : AreLooks part) (own : w.log ≡ part ++ v.log) (counted : IsLastLoad n part) (same : w.shape ≡ k) (low : o < container_count k) (left : 0 < v.left) (is : kind_in k.starts o ≡ kind.List) where
+module _ (v w : View) (k : Shape) (o index n : ℕ) (part : List Act) (looked : OnlyLooked v w) (looks : AreLookSteps part) (own : w.log ≡ part ++ v.log) (counted : IsLastLoad n part) (same : w.shape ≡ k) (low : o < container_count k) (left : 0 < v.left) (is : kind_in k.starts o ≡ kind.List) where
   may_ask : MayAsk w o n
-  may_ask = record {
-    low = subst (λ (z : Shape). o < container_count z) (sym same) low;
-    left = subst (λ (z : ℕ). 0 < z) (sym loaded.work.left) left;
-    loaded = record {
-      newer = counted.newer;
-      rest = counted.rest ++ v.log;
-      is = own ∙ (ap (λ (z : List Act). z ++ v.log) counted.is ∙ append_assoc counted.newer (ReadCounter n ∷ counted.rest) v.log);
-      own = looks_own counted.newer (looks_newer counted.newer (ReadCounter n ∷ counted.rest) (subst AreLooks counted.is looks));
-    };
-  }
+  may_ask = may_ask_on v w k o n part looked looks own counted same low left
 
   here : kind_in w.shape.starts o ≡ kind.List
   here = ap (λ (z : Shape). kind_in z.starts o) same ∙ is
@@ -58,5 +47,5 @@ module _ (v w : View) (k : Shape) (o index n : ℕ) (part : List Act) (loaded : 
     pub item_either : IsReachable w → ((value : Value) × IsStored kind payload (Plain value)) ⊎ IsStored kind payload Empty
     item_either possible = items_are_read w o shows.t index n possible may_ask.low here shows.low shows.hit kind payload (inl shows.read)
 
-pub contended_after : (v w : View) (o index a b : ℕ) (part : List Act) → OnlyLoaded v w → AreLooks part → w.log ≡ part ++ v.log → StopsItemLook o index a b part → IsItemContended o index a b v w
-contended_after v w o index a b part loaded looks own stops = record { loaded = loaded; part = part; looks = looks; own = own; stops = stops }
+pub contended_after : (v w : View) (o index a b : ℕ) (part : List Act) → OnlyLooked v w → AreLookSteps part → w.log ≡ part ++ v.log → StopsItemLook o index a b part → IsItemContended o index a b v w
+contended_after v w o index a b part looked looks own stops = record { looked = looked; part = part; looks = looks; own = own; stops = stops }

@@ -47,7 +47,7 @@ use Rattle.ft_search.specs.KeyLooks.{AreLooks}
 use Rattle.ft_search.proofs.Asking.{held_shown}
 use Rattle.ft_search.proofs.Lengths.{IsPlain, between_own}
 use Rattle.ft_search.proofs.Running.{did_trans}
-use Rattle.ft_search.proofs.Rounding.{looks_append}
+use Rattle.ft_search.proofs.LoadedLooks.{looks_append}
 use Rattle.ft_list.specs.Indexes.{item_named, IsItemNamed, ShowsNamed}
 use Rattle.ft_reads.specs.Reads.{Reads, ShowsRead}
 use Rattle.ft_list.proofs.Lists.{list_content}

@@ -26,7 +26,7 @@ use Rattle.ft_bank.proofs.KnownAfterWrites.{loaded_by, loaded_held, loaded_then}
 use Rattle.ft_search.specs.Boxed.{box_acts, IsKnownBox, SeesKnown, SeesValue}
 use Rattle.ft_search.specs.declared.boxed.SeenValue.{SeenValue}
 use Rattle.ft_search.specs.KeyLooks.{AreLooks}
-use Rattle.ft_search.proofs.Rounding.{looks_append}
+use Rattle.ft_search.proofs.LoadedLooks.{looks_append}
 use Rattle.ft_search.proofs.Running.{did_trans}
 use Rattle.ft_reads.specs.Pairs.{ReadsBoth}
 use Rattle.ft_reads.specs.Reads.{Reads}

@@ -8,9 +8,11 @@ ghost use Rattle.ft_model.specs.declared.script.Kind.TheVariants as kind;
 ghost use Rattle.ft_trace.specs.Acts.{announces};
 ghost use Rattle.ft_trace.specs.Addresses.{container_count};
 ghost use Rattle.ft_trace.specs.LookReplies.{item_reply};
+ghost use Rattle.ft_trace.specs.Boxes.{IsSettled};
 ghost use Rattle.ft_trace.specs.ContainerStates.{kind_in};
 ghost use Rattle.ft_bank.specs.Passes.{shape_of, view, IsPassOf};
 ghost use Rattle.ft_bank.specs.PassSections.{stack_of};
+ghost use Rattle.ft_bank.specs.SameBoxes.{HoldsFew};
 ghost use Rattle.ft_list.specs.ItemLooks.{IsItemFoundAt, IsGetOf};
 
 use crate::looks::{LookedItem, find_item};
@@ -81,6 +83,8 @@ fn find_value(bank: &Bank, pass: &mut Pass, l: Object, index: u64) -> AtIndex
     requires list { kind_in (shape_of bank.now).starts l ≡ kind.List }
     requires online { 0 < announces (view pass.old).log }
     requires left { 0 < (view pass.old).left }
+    requires settled { IsSettled (view pass.old).log }
+    requires few { HoldsFew (view pass.old) }
     ensures pass { IsPassOf bank.now pass.new }
     ensures sections { stack_of pass.new ≡ stack_of pass.old }
     ensures found { IsItemFoundAt l index (view pass.old) (view pass.new) result }
@@ -100,7 +104,8 @@ fn find_value(bank: &Bank, pass: &mut Pass, l: Object, index: u64) -> AtIndex
 }
 
 /// `l[i]` without the lock, for an index that isn't negative; the pass is online. It is contended by the
-/// version of that very item alone, or by that of the list where its root was read 0.
+/// version of that very item alone, or by the count of the box that it names, or by the list's version where its root was
+/// read 0.
 #[inline(always)]
 pub fn look_item(bank: &Bank, pass: &mut Pass, l: Object, index: u64) -> Look
     requires pass { IsPassOf bank.now pass.old }
@@ -109,6 +114,8 @@ pub fn look_item(bank: &Bank, pass: &mut Pass, l: Object, index: u64) -> Look
     requires index { index < 2 ^ 63 }
     requires online { 0 < announces (view pass.old).log }
     requires left { 0 < (view pass.old).left }
+    requires settled { IsSettled (view pass.old).log }
+    requires few { HoldsFew (view pass.old) }
     ensures pass { IsPassOf bank.now pass.new }
     ensures sections { stack_of pass.new ≡ stack_of pass.old }
     ensures looked { IsGetOf l index (view pass.old) (view pass.new) result }

@@ -8,10 +8,12 @@ ghost use Rattle.ft_trace.specs.Acts.{announces, has_lock};
 ghost use Rattle.ft_trace.specs.Addresses.{container_count};
 ghost use Rattle.ft_trace.specs.Holds.{held_unboxed, known_state};
 ghost use Rattle.ft_trace.specs.Pictures.{Represents};
+ghost use Rattle.ft_trace.specs.Boxes.{IsSettled};
 ghost use Rattle.ft_trace.specs.ContainerStates.{kind_in};
 ghost use Rattle.ft_bank.specs.Answered.{Answered};
 ghost use Rattle.ft_bank.specs.Passes.{shape_of, view, IsPassOf};
 ghost use Rattle.ft_bank.specs.PassSections.{stack_of};
+ghost use Rattle.ft_bank.specs.SameBoxes.{HoldsFew};
 ghost use Rattle.ft_bank.specs.Series.{DidAll};
 ghost use Rattle.ft_search.specs.Lengths.{IsGlanceOf};
 ghost use Rattle.ft_search.specs.KeyLooks.{AreLooks};
@@ -72,7 +74,8 @@ fn look_between(bank: &Bank, pass: &mut Pass, l: Object, index: i64) -> Look
 ///
 /// `Contended` where two loads of one version gave an odd number or two different ones: for an index that
 /// isn't negative the version of that very item, or of the list where its root was read 0; for a negative
-/// index the version of the list. It never answers `NoMemory`.
+/// index the version of the list. Where the item names a box, also where the count word of the box moved when it should be
+/// raised, or was that of a dead box. It never answers `NoMemory`.
 #[inline(always)]
 pub fn look_get(bank: &Bank, pass: &mut Pass, l: Object, index: i64) -> Look
     requires pass { IsPassOf bank.now pass.old }
@@ -80,6 +83,8 @@ pub fn look_get(bank: &Bank, pass: &mut Pass, l: Object, index: i64) -> Look
     requires list { kind_in (shape_of bank.now).starts l ≡ kind.List }
     requires online { 0 < announces (view pass.old).log }
     requires left { 0 < (view pass.old).left }
+    requires settled { IsSettled (view pass.old).log }
+    requires few { HoldsFew (view pass.old) }
     ensures pass { IsPassOf bank.now pass.new }
     ensures sections { stack_of pass.new ≡ stack_of pass.old }
     ensures looked { IsLookGetOf l index (view pass.old) (view pass.new) result }

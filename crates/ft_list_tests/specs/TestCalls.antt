@@ -6,8 +6,10 @@ use Rattle.ft_bank.specs.declared.pass.Pass.{Pass}
 use Rattle.ft_trace.specs.declared.Shape.{Shape}
 use Rattle.ft_trace.specs.declared.View.{View}
 use Rattle.ft_trace.specs.Acts.{has_lock, is_writing, stage}
+use Rattle.ft_trace.specs.Boxes.{IsSettled}
 use Rattle.ft_bank.specs.declared.table.Table.{Table}
-use Rattle.ft_bank.specs.Passes.{shape_of}
+use Rattle.ft_bank.specs.Passes.{shape_of, view, IsPassOf}
+use Rattle.ft_bank.specs.SameBoxes.{HoldsFew}
 use Rattle.ft_bank.specs.TableNames.{table_id, IsTableIn}
 use Rattle.ft_section.specs.declared.answers.Objects.{Objects}
 use Rattle.ft_section.specs.Ready.{MayTry}
@@ -28,3 +30,9 @@ pub record IsGrowing (k : Shape) (table : Table) (v : View) : Type 0 where
   pub fresh : stage (table_id table) v.log ≡ 1
   pub locked : has_lock 0 v.log ≡ true
   pub even : (p : ℕ) → is_writing p v.log ≡ false
+
+-- the pass may look: it has nothing left to do with boxes that it made, and holds few references
+pub record MayLook (b : Bank) (p : Pass) : Type 0 where
+  pub pass : IsPassOf b p
+  pub settled : IsSettled (view p).log
+  pub few : HoldsFew (view p)

@@ -5,7 +5,7 @@ ghost use Rattle.ft_bank.specs.Passes.{shape_of, IsPassOf};
 ghost use Rattle.ft_trace.specs.Addresses.{container_count};
 ghost use Rattle.ft_trace.specs.ContainerStates.{kind_in};
 ghost use Rattle.ft_section.specs.declared.answers.Step.TheVariants as steps;
-ghost use Rattle.ft_list_tests.specs.TestCalls.{HasTwoLists, MayTryAny};
+ghost use Rattle.ft_list_tests.specs.TestCalls.{HasTwoLists, MayLook, MayTryAny};
 
 use ft_bank::{Bank, Pass};
 use ft_list::{
@@ -102,8 +102,8 @@ pub(crate) fn try_call(
 /// `l == m`, looked for without locks.
 fn look_equal(bank: &Bank, reader: &mut Pass, l: u32, m: u32) -> Option<Look>
     requires lists { HasTwoLists bank.now }
-    requires pass { IsPassOf bank.now reader.old }
-    ensures pass { IsPassOf bank.now reader.new }
+    requires pass { MayLook bank.now reader.old }
+    ensures pass { MayLook bank.now reader.new }
 {
     if reader.left() == 0 || !is_list(bank, l) || !is_list(bank, m) {
         return None;
@@ -120,8 +120,8 @@ pub(crate) fn look_call(
     call: ListCall,
 ) -> Option<Look>
     requires lists { HasTwoLists bank.now }
-    requires pass { IsPassOf bank.now reader.old }
-    ensures pass { IsPassOf bank.now reader.new }
+    requires pass { MayLook bank.now reader.old }
+    ensures pass { MayLook bank.now reader.new }
 {
     enter(bank, reader);
     if reader.left() == 0 || !is_list(bank, l) {

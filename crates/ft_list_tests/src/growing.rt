@@ -3,13 +3,14 @@
 ghost use Rattle.std.specs.Prelude.{◌≡◌, ℕ, ◌<◌, true, false};
 ghost use Rattle.ft_trace.specs.Acts.{flight, has_lock, is_writing, owes};
 ghost use Rattle.ft_bank.specs.Passes.{shape_of, view, IsPassOf};
-ghost use Rattle.ft_list_tests.specs.TestCalls.{HasTwoLists, IsGrowing, MayTryAny};
+ghost use Rattle.ft_list_tests.specs.TestCalls.{HasTwoLists, IsGrowing, MayLook, MayTryAny};
 
 use crate::banks::small_bank;
 use crate::calls::{is_list, look_call};
 use crate::python::{Python, call_of};
 use crate::writing::{fill, is_contended};
 use ft_bank::{Bank, Pass, Table, Took};
+use ft_boxes::new_passes_are_settled;
 use ft_layout::{Stored, item_word, stored_kind_of};
 use ft_model::{Reply, Value};
 use ft_section::{Got, Look, Objects, Stamp, new_passes_are_ready, take_for};
@@ -96,8 +97,8 @@ fn append_halfway(bank: &Bank, writer: &mut Pass) -> bool
 /// Looks at each of the eight items: the index of the first that isn't answered.
 fn first_unanswered(bank: &Bank, reader: &mut Pass, alloc: Global) -> Option<i64>
     requires lists { HasTwoLists bank.now }
-    requires pass { IsPassOf bank.now reader.old }
-    ensures pass { IsPassOf bank.now reader.new }
+    requires pass { MayLook bank.now reader.old }
+    ensures pass { MayLook bank.now reader.new }
 {
     let stamp = Stamp {
         number: 8,
@@ -117,6 +118,7 @@ fn an_append_that_takes_a_table_contends_no_look_at_an_item(rt: HostRuntime) -> 
     let alloc = rt.alloc();
     let (bank, mut writer, mut reader) = small_bank(alloc)?;
     new_passes_are_ready(&bank, &writer);
+    new_passes_are_settled(&bank, &reader);
     fill(&bank, &mut writer, alloc)?;
     assert!(rt; append_halfway(&bank, &mut writer));
     assert_eq!(rt; first_unanswered(&bank, &mut reader, alloc), None);

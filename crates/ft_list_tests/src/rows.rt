@@ -1,12 +1,13 @@
 //! Tables of calls on the two lists of a bank, which are made one after the other.
 ghost use Rattle.std.specs.Prelude.{◌≡◌, true, IfSome};
 ghost use Rattle.ft_bank.specs.Passes.{IsPassOf};
-ghost use Rattle.ft_list_tests.specs.TestCalls.{HasTwoLists, MayTryAny};
+ghost use Rattle.ft_list_tests.specs.TestCalls.{HasTwoLists, MayLook, MayTryAny};
 
 use crate::banks::small_bank;
 use crate::calls::{look_call, try_call};
 use crate::python::{Python, call_of};
 use ft_bank::{Bank, Pass};
+use ft_boxes::new_passes_are_settled;
 use ft_model::{ListCall, Raise, Reply, Value};
 use ft_section::{Look, Stamp, new_passes_are_ready};
 use std::alloc::Global;
@@ -155,8 +156,8 @@ fn is_tried(bank: &Bank, pass: &mut Pass, alloc: Global, row: Asked, number: u64
 /// Makes the call of a row without locks. Says whether it answers as the row says.
 fn is_found(bank: &Bank, reader: &mut Pass, alloc: Global, row: Asked, number: u64) -> bool
     requires lists { HasTwoLists bank.now }
-    requires pass { IsPassOf bank.now reader.old }
-    ensures pass { IsPassOf bank.now reader.new }
+    requires pass { MayLook bank.now reader.old }
+    ensures pass { MayLook bank.now reader.new }
 {
     match look_call(bank, reader, alloc, row.list, row.call) {
         Some(Look::Done(reply, stamp)) => is_answer(&reply, stamp, row, number),
@@ -175,9 +176,9 @@ fn is_made(
 ) -> bool
     requires lists { HasTwoLists bank.now }
     requires may { MayTryAny bank.now pass.old }
-    requires reader { IsPassOf bank.now reader.old }
+    requires reader { MayLook bank.now reader.old }
     ensures may { result ≡ true → MayTryAny bank.now pass.new }
-    ensures reader { IsPassOf bank.now reader.new }
+    ensures reader { MayLook bank.now reader.new }
 {
     if row.looks {
         is_found(bank, reader, alloc, row, number)
@@ -198,9 +199,9 @@ fn made_all(
 ) -> Option<u64>
     requires lists { HasTwoLists bank.now }
     requires may { MayTryAny bank.now pass.old }
-    requires reader { IsPassOf bank.now reader.old }
+    requires reader { MayLook bank.now reader.old }
     ensures may { IfSome result (λ next. MayTryAny bank.now pass.new) }
-    ensures reader { IsPassOf bank.now reader.new }
+    ensures reader { MayLook bank.now reader.new }
 {
     let mut next = number;
     for _ in 0..row.times {
@@ -223,7 +224,7 @@ fn first_of(
 ) -> Option<usize>
     requires lists { HasTwoLists bank.now }
     requires may { MayTryAny bank.now pass.old }
-    requires reader { IsPassOf bank.now reader.old }
+    requires reader { MayLook bank.now reader.old }
 {
     let mut number = 0;
     for place in 0..rows.len() {
@@ -240,5 +241,6 @@ fn first_of(
 pub(crate) fn first_wrong(alloc: Global, rows: &[Row]) -> Result<Option<usize>, Fail> {
     let (bank, mut pass, mut reader) = small_bank(alloc)?;
     new_passes_are_ready(&bank, &pass);
+    new_passes_are_settled(&bank, &reader);
     Ok(first_of(&bank, &mut pass, &mut reader, alloc, rows))
 }

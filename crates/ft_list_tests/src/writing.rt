@@ -9,12 +9,13 @@ ghost use Rattle.ft_trace.specs.ContainerStates.{kind_in};
 ghost use Rattle.ft_bank.specs.Passes.{shape_of, view, IsPassOf};
 ghost use Rattle.ft_bank.specs.TableNames.{table_id};
 ghost use Rattle.ft_list.specs.ListItemWrites.{WritesList};
-ghost use Rattle.ft_list_tests.specs.TestCalls.{HasTwoLists, MayTryAny};
+ghost use Rattle.ft_list_tests.specs.TestCalls.{HasTwoLists, MayLook, MayTryAny};
 
 use crate::banks::{small_bank, some_left};
 use crate::calls::{is_list, look_call, try_call};
 use crate::python::{Python, call_of};
 use ft_bank::{Bank, Pass, Table};
+use ft_boxes::new_passes_are_settled;
 use ft_layout::item_word;
 use ft_list::{look_eq, look_has};
 use ft_model::{Reply, Value};
@@ -110,8 +111,8 @@ pub(crate) fn is_contended(
     version: u64,
 ) -> bool
     requires lists { HasTwoLists bank.now }
-    requires pass { IsPassOf bank.now reader.old }
-    ensures pass { IsPassOf bank.now reader.new }
+    requires pass { MayLook bank.now reader.old }
+    ensures pass { MayLook bank.now reader.new }
 {
     match look_call(bank, reader, alloc, 0, call_of(python)) {
         Some(Look::Contended(early, late)) => early == version && late == version,
@@ -124,6 +125,7 @@ fn an_item_whose_version_is_odd_contends_alone(rt: HostRuntime) -> Result<(), Fa
     let alloc = rt.alloc();
     let (bank, mut writer, mut reader) = small_bank(alloc)?;
     new_passes_are_ready(&bank, &writer);
+    new_passes_are_settled(&bank, &reader);
     fill(&bank, &mut writer, alloc)?;
     // The item was put once, so that its version was 2; eight writes made the list's 16.
     assert_eq!(rt; open_third(&bank, &mut writer), Some(3));

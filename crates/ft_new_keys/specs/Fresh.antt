@@ -13,7 +13,7 @@ use Rattle.ft_trace.specs.Kinds.{rows, IsKeyed}
 use Rattle.ft_trace.specs.Pictures.{root_in, entry_field}
 use Rattle.ft_bank.specs.Passes.{shape_of, view, IsPassOf}
 use Rattle.ft_bank.specs.PassSections.{stack_of}
-use Rattle.ft_bank.specs.TableNames.{table_id, IsTableIn}
+use Rattle.ft_bank.specs.TableNames.{table_id, IsTableIn, IsPlaceOf}
 use Rattle.ft_boxes.specs.References.{KeepsValues}
 use Rattle.ft_table_calls.specs.Adding.{OnlyFilled}
 use Rattle.ft_new_keys.specs.declared.fresh.FreshWords.{FreshWords}
@@ -29,7 +29,9 @@ pub record CanFill (s : FreshWords) : Type 0 where
   pub old_in : IsTableIn (shape_of s.bank.now) s.old
   pub old_root : root_in (held_unboxed s.o (view s.pass.now)) ≡ suc (table_id s.old)
   pub old_mask : s.old_mask ≡ class_mask s.old.class
+  pub old_start : IsPlaceOf (shape_of s.bank.now) s.old s.old_start
   pub table_in : IsTableIn (shape_of s.bank.now) s.table
+  pub start : IsPlaceOf (shape_of s.bank.now) s.table s.start
   pub fresh : stage (table_id s.table) (view s.pass.now).log ≡ 1
   pub mask : s.mask ≡ class_mask s.table.class
 
@@ -54,7 +56,9 @@ pub record FreshMade (s : FreshWords) (access : Access) (t : FreshWords) : Type 
   pub o : t.o ≡ s.o
   pub old : t.old ≡ s.old
   pub old_mask : t.old_mask ≡ s.old_mask
+  pub old_start : t.old_start ≡ s.old_start
   pub table : t.table ≡ s.table
+  pub start : t.start ≡ s.start
   pub mask : t.mask ≡ s.mask
   pub in_place : t.in_place ≡ s.in_place
   pub only : OnlyFilled (view s.pass.now) (view t.pass.now)

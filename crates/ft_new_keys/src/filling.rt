@@ -42,8 +42,9 @@ pub fn blank(bank: &Bank, pass: &mut Pass, table: Table)
     ensures values { KeepsValues (view pass.old) (view pass.new) }
     ensures blank { HasZeroWords (class_of (table_id table)) (in_hand (table_id table) (view pass.new)) }
 {
+    let start = bank.cell_of(table);
     for at in 0..table_size(table.class) - 2 {
-        bank.put_fresh(pass, table, at, 0);
+        bank.put_fresh_word(pass, table, start, at, 0);
     }
 }
 
@@ -94,12 +95,16 @@ fn copy_entries(
     used_entries_follow_a_set();
     let mask = mask_of(table.class);
     let old_mask = mask_of(old.class);
+    let old_start = bank.cell_of(old);
+    let start = bank.cell_of(table);
     let mut words = FreshWords {
         bank,
         pass,
         o,
         old,
         old_mask,
+        old_start,
+        start,
         table,
         mask,
         in_place: true,
@@ -178,12 +183,16 @@ fn move_table(bank: &Bank, pass: &mut Pass, o: u32, growth: &Growth, old: Table)
     let table = growth.table;
     let mask = mask_of(table.class);
     let old_mask = mask_of(old.class);
+    let old_start = bank.cell_of(old);
+    let start = bank.cell_of(table);
     let mut words = FreshWords {
         bank,
         pass,
         o,
         old,
         old_mask,
+        old_start,
+        start,
         table,
         mask,
         in_place: false,

@@ -57,8 +57,12 @@ pub struct FreshWords<'a> {
     pub old: Table,
     /// The last slot of that one's index.
     pub old_mask: u64,
+    /// Where its words lie.
+    pub old_start: u64,
     /// The fresh table.
     pub table: Table,
+    /// Where its words lie.
+    pub start: u64,
     /// The last slot of its index.
     pub mask: u64,
     /// Whether the fresh table gets values in place that stand in boxes in the other one; else it names the boxes.
@@ -81,24 +85,26 @@ impl<'a> Words for FreshWords<'a> {
 
     #[tactic(auto, using(crate::proofs::FreshSteps::keeps_load))]
     fn index(&mut self, slot: u64) -> u64 {
-        self.bank.read_table(self.pass, self.table, slot)
+        self.bank.read_word(self.pass, self.table, self.start, slot)
     }
 
     #[tactic(auto, using(crate::proofs::FreshSteps::keeps_load))]
     fn entry(&mut self, place: u64, word: u64) -> u64 {
         let at = 8 * place + word + self.mask + 1;
-        self.bank.read_table(self.pass, self.table, at)
+        self.bank.read_word(self.pass, self.table, self.start, at)
     }
 
     #[tactic(auto, using(crate::proofs::FreshSteps::keeps_fresh))]
     fn put_index(&mut self, slot: u64, value: u64) {
-        self.bank.put_fresh(self.pass, self.table, slot, value);
+        self.bank
+            .put_fresh_word(self.pass, self.table, self.start, slot, value);
     }
 
     #[tactic(auto, using(crate::proofs::FreshSteps::keeps_fresh))]
     fn put_entry(&mut self, place: u64, word: u64, value: u64) {
         let at = 8 * place + word + self.mask + 1;
-        self.bank.put_fresh(self.pass, self.table, at, value);
+        self.bank
+            .put_fresh_word(self.pass, self.table, self.start, at, value);
     }
 }
 
@@ -115,7 +121,9 @@ impl<'a> TableMove for FreshWords<'a> {
     fn old_entry(&mut self, place: u64, word: u64) -> u64 {
         let at = 8 * place + self.old_mask + 1;
         if !self.in_place {
-            return self.bank.read_table(self.pass, self.old, at + word);
+            return self
+                .bank
+                .read_word(self.pass, self.old, self.old_start, at + word);
         }
         if word == VALUE_KIND {
             return read_stored(self.bank, self.pass, self.o, self.old, at + VALUE_KIND).0;
@@ -123,7 +131,8 @@ impl<'a> TableMove for FreshWords<'a> {
         if word == VALUE {
             return read_stored(self.bank, self.pass, self.o, self.old, at + VALUE_KIND).1;
         }
-        self.bank.read_table(self.pass, self.old, at + word)
+        self.bank
+            .read_word(self.pass, self.old, self.old_start, at + word)
     }
 
     ghost room_stays = { λ before after access gave. λ i. rows (kind_in (shape_of (gave.bank i).now).starts (gave.o i))

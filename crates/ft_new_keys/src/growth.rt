@@ -77,6 +77,7 @@ pub fn drop_old(bank: &Bank, pass: &mut Pass, o: u32, way: Way, old: Option<Tabl
     ensures stack { stack_of pass.new ≡ stack_of pass.old }
     ensures only { OnlyBoxed (view pass.old) (view pass.new) }
     ensures made { StaysSettled (view pass.old) (view pass.new) }
+    ensures values { KeepsValues (view pass.old) (view pass.new) }
     ensures references { (b : ℕ) → references_held (shape_of bank.now) b (view pass.new).log
         + named_in_old (shape_of bank.now) o old (view pass.old) b
         ≡ references_held (shape_of bank.now) b (view pass.old).log }

@@ -107,12 +107,16 @@ fn put_last(
     calls_keep_versions();
     let mask = mask_of(table.class);
     let old_mask = mask_of(old.class);
+    let old_start = bank.cell_of(old);
+    let start = bank.cell_of(table);
     let mut words = FreshWords {
         bank,
         pass,
         o,
         old,
         old_mask,
+        old_start,
+        start,
         table,
         mask,
         in_place: true,

@@ -24,7 +24,7 @@ use Rattle.ft_bank.specs.Series.{DidAll}
 use Rattle.ft_bank.specs.Whole.{OnlyLoaded}
 use Rattle.ft_bank.proofs.KnownAfterWrites.{loaded_held}
 use Rattle.ft_search.proofs.Running.{did_none, did_trans}
-use Rattle.ft_search.proofs.Rounding.{looks_append, looks_did, among_in}
+use Rattle.ft_search.proofs.LoadedLooks.{looks_append, looks_did, among_in}
 use Rattle.ft_search.specs.Boxed.{box_acts, SeesValue}
 use Rattle.ft_search.specs.declared.boxed.SeenValue.{SeenValue}
 use Rattle.ft_reads.specs.Reads.{AgreesRead, HeldAgrees, NamesBoxes, Reads}

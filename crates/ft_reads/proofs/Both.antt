@@ -15,7 +15,7 @@ use Rattle.ft_bank.specs.Passes.{view}
 use Rattle.ft_bank.specs.Whole.{OnlyLoaded}
 use Rattle.ft_section.specs.declared.answers.Objects.TheVariants.{Two}
 use Rattle.ft_section.specs.LockTakings.{AreIn, HasLocks}
-use Rattle.ft_search.proofs.Rounding.{looks_append, looks_did}
+use Rattle.ft_search.proofs.LoadedLooks.{looks_append, looks_did}
 use Rattle.ft_search.proofs.Running.{did_trans}
 use Rattle.ft_reads.specs.Reads.{Reads}
 use Rattle.ft_reads.specs.Pairs.{ReadsBoth}

@@ -28,7 +28,7 @@ use Rattle.ft_search.specs.Lengths.{IsGlanceOf, IsStopped}
 use Rattle.ft_search.specs.KeyLooks.{AreLooks}
 use Rattle.ft_search.proofs.Asking.{may_ask, answered_after}
 use Rattle.ft_search.proofs.Lengths.{IsPlain, between_own}
-use Rattle.ft_search.proofs.Rounding.{looks_append, looks_did}
+use Rattle.ft_search.proofs.LoadedLooks.{looks_append, looks_did}
 use Rattle.ft_search.proofs.Running.{did_log, did_trans}
 use Rattle.ft_reads.specs.Reads.{Reads}
 use Rattle.ft_reads.specs.Pairs.{IsGlanceOfBoth, ReadsBoth}

@@ -1,6 +1,6 @@
 -- A dict or a set that gets another table, once its own was taken out of its root: what the pass knows of the new table
--- then, and of the boxes that it names.
-use Rattle.std.proofs.Common.{◌≡◌, ◌≢◌, ℕ, suc, ◌+◌, ◌<◌, true, false, List, Option, None, refl, sym, ap, ◌∙◌, subst, arith, get_or-set_other}
+-- then, and of other containers.
+use Rattle.std.proofs.Common.{◌≡◌, ◌≢◌, ℕ, suc, ◌<◌, true, false, List, Option, None, sym, ap, ◌∙◌, subst, arith, get_or-set_other}
 use Rattle.std.specs.Prelude.{slice_index, slice_set}
 use Rattle.ft_trace.specs.declared.Act.TheVariants.{PutRoot, StartWrite}
 use Rattle.ft_trace.specs.declared.Shape.{Shape}
@@ -20,8 +20,8 @@ use Rattle.ft_bank.specs.WriteSteps.{KeepsUnwritten, with_unboxed_root}
 use Rattle.ft_bank.proofs.TableAddresses.{named}
 use Rattle.ft_new_keys.specs.KeyGrowth.{MayGrowKeyed}
 use Rattle.ft_new_keys.proofs.Keyed.{Heads}
-use Rattle.ft_replacing.specs.Sharing.{NamesOthers}
-use Rattle.ft_replacing.proofs.NamedRows.{SameBut, others_on}
+use Rattle.ft_replacing.specs.Sharing.{NamesLocked}
+use Rattle.ft_replacing.proofs.NamedRows.{SameBut}
 
 -- a root that is put leaves the words of a table
 hand_stays : (k : Shape) (o t x : ℕ) (ws : List ℕ) → o < container_count k → IsTableName k t → (i : ℕ) → i < size (class_of t) → slice_index (slice_set ws (at k (block o 0)) x) (at k (cell t i)) ≡ slice_index ws (at k (cell t i))
@@ -37,7 +37,7 @@ pub record Emptied (k : Shape) (o : ℕ) (old : Option Table) (table : Table) (f
   pub shape : v.shape ≡ k
   pub possible : ∥ IsReachable v ∥₁
   pub other : root_in (held_unboxed o v) ≢ suc (table_id table)
-  pub named : NamesOthers k o (table_id table) v
+  pub named : NamesLocked k o (table_id table) v
   pub started : s ≡ view_after (StartWrite o f) v
   pub rooted : r ≡ view_after (PutRoot o 0 (root_in (held_words o s))) s
   pub root_held : held_unboxed o r ≡ with_unboxed_root (held_unboxed o s) o None s
@@ -78,6 +78,3 @@ module _ (k : Shape) (o : ℕ) (old : Option Table) (table : Table) (f : ℕ) (v
       let mine_s : has_lock q s.log ≡ true = ap (λ (z : View). has_lock q z.log) e.started ∙ mine in
       let put = e.keeps q low_s mine_s quiet in
       (put.0 ∙ ap (λ (z : View). held_words q z) e.started, put.2 ∙ ap (λ (z : View). held_unboxed q z) e.started)
-
-  pub named_emptied : NamesOthers k o t r
-  named_emptied = others_on k o t v r hand_emptied others_emptied locks_emptied e.named

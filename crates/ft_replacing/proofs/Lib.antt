@@ -3,8 +3,10 @@ mod NumberedEntries
 mod SharedTables
 mod SharedDicts
 mod CopiedBoxes
-mod NamedRows
 mod RaisedRows
+mod NamedRows
+mod KeptValues
+mod OwnRows
 pub mod PlainFills
 mod Emptied
 mod Swapped

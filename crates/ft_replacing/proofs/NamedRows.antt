@@ -1,14 +1,13 @@
 -- A box that a container names whose lock a pass has: the pass may raise its count, and knows its value while it has the
 -- lock. So the words of a table in hand that names such boxes read the same meanwhile.
-use Rattle.std.proofs.Common.{◌≡◌, ◌≢◌, ◌⊎◌, ℕ, suc, ◌<◌, ◌≤◌, true, List, refl, sym, ap, ◌∙◌, subst, inl, inr, ⊎_elim, arith}
+use Rattle.std.proofs.Common.{◌≡◌, ◌≢◌, ◌⊎◌, ℕ, suc, ◌<◌, ◌≤◌, true, List, sym, ap, ◌∙◌, subst, inl, inr, ⊎_elim, arith}
 use Rattle.std.specs.Prelude.{slice_index}
 use Rattle.ft_model.specs.declared.script.Kind.{Kind}
-use Rattle.ft_model.specs.Classes.{IsClass}
 use Rattle.ft_trace.specs.declared.Shape.{Shape}
 use Rattle.ft_trace.specs.declared.View.{View}
-use Rattle.ft_trace.specs.Acts.{has_lock}
+use Rattle.ft_trace.specs.Acts.{has_lock, mem}
 use Rattle.ft_trace.specs.Addresses.{class_of, container_count, IsBoxName}
-use Rattle.ft_trace.specs.Boxes.{known_box_word, knows_box_word, value_at, KeepsBox}
+use Rattle.ft_trace.specs.Boxes.{known_box_word, knows_box_word, named_in_container, named_in_root, references_held, value_at, KeepsBox}
 use Rattle.ft_trace.specs.ContainerStates.{kind_in}
 use Rattle.ft_trace.specs.Holds.{held_words, held_unboxed, hand_unboxed, in_hand}
 use Rattle.ft_trace.specs.Kinds.{rows}
@@ -19,11 +18,13 @@ use Rattle.ft_trace.proofs.Cases.{here}
 use Rattle.ft_trace.proofs.PlainPuts.{by_root}
 use Rattle.ft_trace.proofs.ReadTables.{rows_at, value_low}
 use Rattle.ft_trace.proofs.Unboxed.{rows_same}
+use Rattle.ft_bank.specs.SameBoxes.{named_in_words}
 use Rattle.ft_bank.specs.Whole.{OnlyBoxed}
 use Rattle.ft_bank.proofs.NamedBoxes.{named_is_box, named_is_known, named_keeps}
 use Rattle.ft_search.proofs.Overs.{boxed_held}
 use Rattle.ft_search.proofs.Unboxing.{raw_table_long}
-use Rattle.ft_replacing.specs.Sharing.{IsNamedBy, NamesOthers}
+use Rattle.ft_replacing.proofs.RaisedRows.{row_counts}
+use Rattle.ft_replacing.specs.Sharing.{IsNamedBy}
 
 -- while the pass has the lock and the words stay
 pub named_on : (k : Shape) (q b : ℕ) (v w : View) → held_words q w ≡ held_words q v → has_lock q w.log ≡ has_lock q v.log → IsNamedBy k q b v → IsNamedBy k q b w
@@ -70,6 +71,13 @@ module _ (k : Shape) (q b : ℕ) (v : View) (shape : v.shape ≡ k) (n : IsNamed
   pub is_known : ∥ IsReachable v ∥₁ → (knows_box_word v.shape b 1 v.log ≡ true) × (knows_box_word v.shape b 2 v.log ≡ true)
   is_known possible = subst (λ (z : ℕ). (knows_box_word v.shape z 1 v.log ≡ true) × (knows_box_word v.shape z 2 v.log ≡ true)) names_it (named_is_known v q n.table n.row possible inside n.locked n.root low_row four)
 
+  -- one value at least names it
+  pub is_counted : 0 < named_in_words b (kind_in v.shape.starts q) (held_words q v)
+  is_counted =
+      let some_ = row_counts b kd (class_of n.table) T (rows kd (class_of n.table)) n.row low_row four names_it in
+      let root : named_in_words b kd (held_words q v) ≡ named_in_root b kd (suc n.table) T = ap (λ (r : ℕ). named_in_root b kd r T) n.root in
+      omega (arith, some_, root)
+
   -- what the row reads
   abbrev box : ℕ → ℕ → ℕ
   box c i = known_box_word v.shape c i v.log
@@ -115,27 +123,22 @@ named_value k q b i v w first then_ words reads locks n which =
 abbrev pub SameBut : Shape → ℕ → View → View → Type 0
 SameBut k o v w = (q : ℕ) → q < container_count k → q ≢ o → has_lock q v.log ≡ true → (held_words q w ≡ held_words q v) × (held_unboxed q w ≡ held_unboxed q v)
 
--- so a table in hand names such boxes still
-pub others_on : (k : Shape) (o t : ℕ) (v w : View) → in_hand t w ≡ in_hand t v → SameBut k o v w → ((q : ℕ) → has_lock q w.log ≡ has_lock q v.log) → NamesOthers k o t v → NamesOthers k o t w
-others_on k o t v w hand same locks named p low four =
-    let at : ℕ = value_at (kind_in k.starts o) (class_of t) p in
-    let n = named p low (ap (λ (l : List ℕ). slice_index l at) (sym hand) ∙ four) in
-    let s = same n.0 n.2.container n.1 n.2.locked in (
-      n.0,
-      n.1,
-      subst (λ (b : ℕ). IsNamedBy k n.0 b w) (ap (λ (l : List ℕ). slice_index l (suc at)) (sym hand)) (named_on k n.0 (slice_index (in_hand t v) (suc at)) v w s.0 (locks n.0) n.2),
-    )
-
--- and reads the same
-pub others_read : (k : Shape) (o t : ℕ) (v w : View) → v.shape ≡ k → w.shape ≡ k → in_hand t w ≡ in_hand t v → SameBut k o v w → ((q : ℕ) → has_lock q w.log ≡ has_lock q v.log) → NamesOthers k o t v → hand_unboxed o t w ≡ hand_unboxed o t v
-others_read k o t v w first then_ hand same locks named =
+-- A table in hand reads the same where the pass knows the same value in each box that it names.
+pub rows_read : (k : Shape) (o t : ℕ) (v w : View) → v.shape ≡ k → w.shape ≡ k → in_hand t w ≡ in_hand t v
+    → ((p i : ℕ) → p < rows (kind_in k.starts o) (class_of t) → slice_index (in_hand t v) (value_at (kind_in k.starts o) (class_of t) p) ≡ 4 → (i ≡ 1) ⊎ (i ≡ 2)
+    → known_box_word w.shape (slice_index (in_hand t v) (suc (value_at (kind_in k.starts o) (class_of t) p))) i w.log ≡ known_box_word v.shape (slice_index (in_hand t v) (suc (value_at (kind_in k.starts o) (class_of t) p))) i v.log)
+    → hand_unboxed o t w ≡ hand_unboxed o t v
+rows_read k o t v w first then_ hand same =
     let kd : Kind = kind_in v.shape.starts o in
     let L : List ℕ = in_hand t v in
+    let by : (p i : ℕ) → p < rows kd (class_of t) → slice_index L (value_at kd (class_of t) p) ≡ 4 → (i ≡ 1) ⊎ (i ≡ 2) → known_box_word w.shape (slice_index L (suc (value_at kd (class_of t) p))) i w.log ≡ known_box_word v.shape (slice_index L (suc (value_at kd (class_of t) p))) i v.log =
+    subst (λ (z : Shape). (p i : ℕ) → p < rows (kind_in z.starts o) (class_of t) → slice_index L (value_at (kind_in z.starts o) (class_of t) p) ≡ 4 → (i ≡ 1) ⊎ (i ≡ 2) → known_box_word w.shape (slice_index L (suc (value_at (kind_in z.starts o) (class_of t) p))) i w.log ≡ known_box_word v.shape (slice_index L (suc (value_at (kind_in z.starts o) (class_of t) p))) i v.log) (sym first) same in
     (λ d. unboxed_table (λ b i. known_box_word w.shape b i w.log) (kind_in ((then_ ∙ sym first) d).starts o) (suc t) (hand d))
-    ∙ rows_same (λ b i. known_box_word w.shape b i w.log) (λ b i. known_box_word v.shape b i v.log) kd (class_of t) (rows kd (class_of t)) L
-    (λ p i low four which.
-    let here_ : (z : Shape) → z ≡ k → p < rows (kind_in z.starts o) (class_of t) → slice_index L (value_at (kind_in z.starts o) (class_of t) p) ≡ 4 → (q : ℕ) × (q ≢ o) × IsNamedBy k q (slice_index L (suc (value_at (kind_in z.starts o) (class_of t) p))) v =
-    λ z is. subst (λ (y : Shape). p < rows (kind_in y.starts o) (class_of t) → slice_index L (value_at (kind_in y.starts o) (class_of t) p) ≡ 4 → (q : ℕ) × (q ≢ o) × IsNamedBy k q (slice_index L (suc (value_at (kind_in y.starts o) (class_of t) p))) v) (sym is) (named p) in
-    let n = here_ v.shape first low four in
-    let s = same n.0 n.2.container n.1 n.2.locked in
-    named_value k n.0 (slice_index L (suc (value_at kd (class_of t) p))) i v w first then_ s.0 s.1 (locks n.0) n.2 which)
+    ∙ rows_same (λ b i. known_box_word w.shape b i w.log) (λ b i. known_box_word v.shape b i v.log) kd (class_of t) (rows kd (class_of t)) L (λ p i low four which. by p i low four which)
+
+-- a box is kept on where the pass raises counts
+pub kept_boxed : (k : Shape) (b : ℕ) (v w : View) → v.shape ≡ k → OnlyBoxed v w → references_held k b v.log ≤ references_held k b w.log → KeepsBox k b v.log → KeepsBox k b w.log
+kept_boxed k b v w shape only more (inl held) = inl (omega (arith, more, held))
+kept_boxed k b v w shape only more (inr (o, low, mine, some_)) =
+    let words : mem k w.log ≡ mem k v.log = subst (λ (z : Shape). mem z w.log ≡ mem z v.log) shape only.words in
+    inr (o, low, only.work.pass.locks o ∙ mine, subst (λ (ws : List ℕ). 0 < named_in_container k b o ws) (sym words) some_)

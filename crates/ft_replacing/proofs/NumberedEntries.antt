@@ -1,9 +1,8 @@
 -- A table of a dict whose entries get new serials, whatever they store.
-use Rattle.std.proofs.Common.{◌≡◌, ◌≢◌, ℕ, zero, suc, ◌+◌, ◌<◌, ◌≤◌, List, [], ◌∷◌, map, length, filter, Option, Some, None, refl, sym, ap, ◌∙◌, subst, arith}
-use Rattle.std.specs.Prelude.{IsTrue, is_some, slice_index, slice_index_or}
+use Rattle.std.proofs.Common.{◌≡◌, ◌≢◌, ℕ, zero, suc, ◌+◌, ◌<◌, ◌≤◌, List, [], ◌∷◌, map, length, Option, Some, None, refl, sym, ap, ◌∙◌, subst, arith}
+use Rattle.std.specs.Prelude.{IsTrue, slice_index_or}
 use Rattle.ft_model.specs.declared.content.DictPair.{DictPair}
 use Rattle.ft_model.specs.declared.data.Key.{Key}
-use Rattle.ft_model.specs.Classes.{IsClass}
 use Rattle.ft_model.specs.Contents.{pairs_from}
 use Rattle.ft_hash.specs.Probes.{dict_slots}
 use Rattle.ft_hash.proofs.Walks.{dict_slots-within}

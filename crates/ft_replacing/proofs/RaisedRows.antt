@@ -8,11 +8,11 @@ use Rattle.ft_model.specs.declared.script.Kind.{Kind}
 use Rattle.ft_model.specs.declared.script.Kind.TheVariants as kind
 use Rattle.ft_model.specs.Classes.{IsClass}
 use Rattle.ft_trace.specs.Addresses.{slots, places}
-use Rattle.ft_trace.specs.Boxes.{names_box_at, value_at}
+use Rattle.ft_trace.specs.Boxes.{names_box, names_box_at, value_at}
 use Rattle.ft_trace.specs.Kinds.{rows}
 use Rattle.ft_trace.specs.Sums.{sum_to}
-use Rattle.ft_trace.proofs.Cases.{here, miss}
-use Rattle.ft_trace.proofs.Sums.{sum_below}
+use Rattle.ft_trace.proofs.Cases.{here, hit, miss}
+use Rattle.ft_trace.proofs.Sums.{sum_at, sum_below}
 
 pub rows_few : (kind : Kind) (c : ℕ) → IsClass c → rows kind c ≤ 65536
 unfolding slots places
@@ -49,3 +49,10 @@ named_some b kind class ws (suc n) some_ =
     (λ (is : y ≡ b). (n, omega arith, four, is))
     (λ ne. before (here x 4 (cond (eqb y b) 1 0) 0 four ∙ miss y b 1 0 ne)))
     (λ ne. before (miss x 4 (cond (eqb y b) 1 0) 0 ne))
+
+-- one value at least names the box of a row
+pub row_counts : (b : ℕ) (kind : Kind) (class : ℕ) (ws : List ℕ) (n p : ℕ) → p < n → slice_index ws (value_at kind class p) ≡ 4 → slice_index ws (suc (value_at kind class p)) ≡ b → 0 < sum_to (names_box_at b kind class ws) n
+row_counts b kind class ws n p low four is =
+    let at = sum_at (names_box_at b kind class ws) n p low in
+    let one : names_box_at b kind class ws p ≡ 1 = (λ i. names_box b (four i) (is i)) ∙ hit b 1 0 in
+    omega (arith, at, one)

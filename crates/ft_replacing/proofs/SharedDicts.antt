@@ -1,6 +1,6 @@
 -- A pass that has filled a fresh table with the entries of the table of a dict as they stand, with new serials: what it knows
 -- of the table.
-use Rattle.std.proofs.Common.{◌≡◌, ◌≢◌, ℕ, suc, ◌+◌, ◌/◌, ◌%◌, ◌<◌, ◌≤◌, List, [], ◌∷◌, length, filter, Option, Some, None, refl, sym, ap, ◌∙◌, subst, arith}
+use Rattle.std.proofs.Common.{◌≡◌, ℕ, suc, ◌/◌, ◌%◌, ◌<◌, ◌≤◌, List, [], ◌∷◌, length, filter, Option, Some, refl, sym, ap, ◌∙◌, subst}
 use Rattle.std.specs.Prelude.{slice_index}
 use Rattle.ft_model.specs.declared.content.Content.{Content}
 use Rattle.ft_model.specs.declared.content.Content.TheVariants as content
@@ -16,7 +16,6 @@ use Rattle.ft_keys.specs.Accesses.{after}
 use Rattle.ft_keys.specs.Puts.{PutBelow}
 use Rattle.ft_keys.specs.TableChanges.{Moves, Rebuilds}
 use Rattle.ft_keys.specs.Ways.{room, walk_slots, IsTableOf}
-use Rattle.ft_trace.specs.declared.Shape.{Shape}
 use Rattle.ft_trace.specs.declared.View.{View}
 use Rattle.ft_trace.specs.Addresses.{class_of, slots, size}
 use Rattle.ft_trace.specs.Boxes.{known_box_word, value_at}
@@ -41,7 +40,6 @@ use Rattle.ft_new_keys.proofs.FilledTables.{BlankHolds, LivePairs, LiveElements,
 use Rattle.ft_new_keys.proofs.MovedFills.{within}
 use Rattle.ft_new_keys.proofs.MovedTables.{kind_here, payload_here}
 use Rattle.ft_new_keys.proofs.NamedValues.{named_fits, named_has_value}
-use Rattle.ft_new_keys.proofs.Placed.{use_with}
 use Rattle.ft_replacing.specs.Internal.Numbering.{renumbered}
 use Rattle.ft_replacing.specs.Sharing.{IsNamedBy, SharesEntries}
 use Rattle.ft_replacing.proofs.SharedTables.{OldNames, Rebuilt, live, live_many, room_is, row_of, shared_filled, shares_entries}

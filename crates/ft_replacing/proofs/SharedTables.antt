@@ -1,6 +1,6 @@
 -- A fresh table that has got the entries of the table of a dict as they stand, with new serials: what it stands for, and which
 -- boxes it names.
-use Rattle.std.proofs.Common.{◌≡◌, ◌≢◌, ℕ, zero, suc, ◌+◌, ◌/◌, ◌%◌, ◌<◌, ◌≤◌, Bool, true, false, true≢false, cond, List, [], ◌∷◌, map, length, filter, Option, Some, None, refl, sym, ap, ◌∙◌, subst, arith}
+use Rattle.std.proofs.Common.{◌≡◌, ◌≢◌, ℕ, zero, suc, ◌+◌, ◌<◌, ◌≤◌, Bool, true, false, true≢false, cond, List, [], ◌∷◌, map, length, filter, Option, Some, None, refl, sym, ap, ◌∙◌, subst, arith}
 use Rattle.std.specs.Prelude.{All, is_some, slice_index, slice_index_or}
 use Rattle.std.proofs.lemmas.List.{length-map}
 use Rattle.std.proofs.lemmas.List.Elements.{filter_passes}
@@ -15,15 +15,14 @@ use Rattle.ft_model.specs.declared.script.Kind.{Kind}
 use Rattle.ft_model.specs.declared.script.Kind.TheVariants as kind
 use Rattle.ft_model.specs.Classes.{IsClass}
 use Rattle.ft_model.specs.Contents.{DictContent, dict_copy, pairs_from}
-use Rattle.ft_model.proofs.Copies.{length-pairs_from, get-pairs_from}
 use Rattle.ft_layout.specs.declared.slot.Stored.{Stored}
 use Rattle.ft_layout.specs.declared.slot.Stored.TheVariants.{Plain}
-use Rattle.ft_layout.specs.Containers.{class_mask, used_pair, IsBlock, IsDictWords, StandsAs}
+use Rattle.ft_layout.specs.Containers.{class_mask, used_pair, IsDictWords}
 use Rattle.ft_layout.specs.Tables.{UsedEntry, dict_room, entry_word, hash_of, is_live, slot_of, slot_with, IsDictTable}
 use Rattle.ft_layout.specs.Words.{IsEntry, stored_kind}
 use Rattle.ft_keys.specs.declared.walk.Way.TheVariants as way
 use Rattle.ft_keys.specs.Ways.{room, walk_slots}
-use Rattle.ft_trace.specs.Addresses.{class_of, slots, size}
+use Rattle.ft_trace.specs.Addresses.{slots, size}
 use Rattle.ft_trace.specs.Boxes.{value_at}
 use Rattle.ft_trace.specs.Kinds.{rows, IsKeyed}
 use Rattle.ft_trace.specs.Pictures.{entry_field, entry_offset}
@@ -37,7 +36,7 @@ use Rattle.ft_new_keys.proofs.RawTables.{AllRead, read_live, read_long}
 use Rattle.ft_replacing.specs.Internal.Numbering.{renumbered}
 use Rattle.ft_replacing.specs.Sharing.{SharesEntries, numbered_from}
 use Rattle.ft_replacing.proofs.Numbered.{numbered_long, numbered_other, pairs_live}
-use Rattle.ft_replacing.proofs.NumberedEntries.{numbered_at, numbered_many, numbered_pairs, numbered_read, numbered_used, with_serial}
+use Rattle.ft_replacing.proofs.NumberedEntries.{numbered_at, numbered_many, numbered_pairs, numbered_read, numbered_used}
 
 -- ---- lists of entries
 

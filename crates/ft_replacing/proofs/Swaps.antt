@@ -1,6 +1,8 @@
 -- A dict or a set that gets another table in the place of its own: that the roots may be put and the call committed,
 -- and what the words stand for then.
-use Rattle.std.proofs.Common.{◌≡◌, ◌≢◌, ℕ, suc, ◌+◌, ◌<◌, ◌≤◌, true, false, true≢false, List, [], ◌∷◌, length, Option, Some, None, refl, sym, ap, ◌∙◌, subst, arith, length-set, get_or-set_same, get_or-set_other}
+use Rattle.std.proofs.Common.{◌≡◌, ◌≢◌, ◌⊎◌, ⊎_elim, inl, ℕ, suc, ◌+◌, ◌<◌, ◌≤◌, true, false, true≢false, List, [], ◌∷◌, length, Option, Some, None, refl, sym, ap, ◌∙◌, subst, arith, length-set, get_or-set_same, get_or-set_other}
+use mathlib.Core.Logic.{dite}
+use native.Mathlib.Decide.{ℕ_discrete}
 use Rattle.std.specs.Prelude.{◌==◌, cond, is_some, slice_index, slice_set}
 use Rattle.std.specs.Option.{unwrap_or}
 use Rattle.ft_model.specs.declared.call.Call.{Call}
@@ -16,8 +18,8 @@ use Rattle.ft_trace.specs.declared.Shape.{Shape}
 use Rattle.ft_trace.specs.declared.Snap.{Snap}
 use Rattle.ft_trace.specs.declared.View.{View}
 use Rattle.ft_trace.specs.Acts.{has_committed, has_lock, is_writing, view_after, owes, seen_writes, stage, stage_next}
-use Rattle.ft_trace.specs.Addresses.{container_count, class_of, IsTableName}
-use Rattle.ft_trace.specs.Boxes.{knows_box_word, named_in_root, place_use, references_held, use_taken, IsSettled}
+use Rattle.ft_trace.specs.Addresses.{container_count, class_of, IsBoxName, IsTableName}
+use Rattle.ft_trace.specs.Boxes.{known_box_word, knows_box_word, named_in_root, place_use, references_held, use_taken, value_at, IsSettled, KeepsBox}
 use Rattle.ft_trace.specs.Holds.{held_words, held_unboxed, hand_unboxed, in_hand, known_state}
 use Rattle.ft_trace.specs.Kinds.{IsKeyed, rows, version_at, SoundAs}
 use Rattle.ft_trace.specs.OddVersions.{Shut}
@@ -36,6 +38,7 @@ use Rattle.ft_bank.proofs.TableAddresses.{named}
 use Rattle.ft_bank.proofs.DoneBoxes.{none_named, none_taken, settled_then}
 use Rattle.ft_bank.proofs.KnownAfterWrites.{boxed_then, gains_fewer, gains_then, raised_written, work_knows}
 use Rattle.ft_bank.proofs.WordsPut.{taken_words}
+use Rattle.ft_boxes.specs.References.{KeepsValues}
 use Rattle.ft_table_calls.proofs.Dropped.{hand_same, taken_named}
 use Rattle.ft_search.proofs.Overs.{boxed_held}
 use Rattle.ft_search.proofs.Calling.{plain_replied}
@@ -48,10 +51,12 @@ use Rattle.ft_new_keys.proofs.Keyed.{Heads}
 use Rattle.ft_new_keys.proofs.Placed.{counted_head, kind_shut, use_with}
 use Rattle.ft_new_keys.proofs.Rooted.{rooted_head, sound_in}
 use Rattle.ft_replacing.specs.Replacing.{Replaces, replaced_table}
-use Rattle.ft_replacing.specs.Sharing.{IsNamedBy, NamesOthers}
-use Rattle.ft_replacing.proofs.Emptied.{Emptied, fresh_emptied, hand_emptied, locks_emptied, others_emptied, rooted_twice}
-use Rattle.ft_replacing.proofs.NamedRows.{SameBut, is_known, others_on, others_read}
-use Rattle.ft_replacing.proofs.RaisedRows.{named_some, rows_few, sum_few}
+use Rattle.ft_replacing.specs.Sharing.{IsNamedBy, NamesKept}
+use Rattle.ft_replacing.proofs.Emptied.{Emptied, fresh_emptied, hand_emptied, locks_emptied, others_emptied, rooted_twice, shape_emptied}
+use Rattle.ft_replacing.proofs.NamedRows.{SameBut, is_box, is_counted, is_kept, is_known, named_on, named_value, rows_read}
+use Rattle.ft_replacing.proofs.KeptValues.{KnowsWords, SameWords, keeps_more}
+use Rattle.ft_replacing.proofs.OwnRows.{own_known, own_same}
+use Rattle.ft_replacing.proofs.RaisedRows.{named_some, row_counts, rows_few, sum_few}
 use Rattle.ft_replacing.proofs.Swapped.{swapped_write}
 
 -- a block whose root names no table
@@ -81,6 +86,9 @@ pub record Swapping (k : Shape) (o : ℕ) (old : Option Table) (table : Table) (
   pub stays : StaysSettled r x
   pub gains : GainsRaised r x
   pub raised : (b : ℕ) → references_held k b x.log ≡ references_held k b r.log + named_in_root b (kind_in k.starts o) (suc (table_id table)) (in_hand (table_id table) r)
+  pub possible : ∥ IsReachable r ∥₁
+  pub raise_keeps : KeepsValues r x
+  pub drop_keeps : KeepsValues x d
   pub drops : OnlyBoxed x d
   pub made : StaysSettled x d
   pub dropped : (b : ℕ) → references_held k b d.log + named_in_old k o old x b ≡ references_held k b x.log
@@ -173,6 +181,16 @@ module _ (heads : Heads) (k : Shape) (o : ℕ) (old : Option Table) (table : Tab
           let now : references_held k b r.log ≡ references_held r.shape b r.log = ap (λ (z : Shape). references_held z b r.log) (sym (shape_rooted ∙ shape_started)) in
           omega (arith, bare_before, moved, after, was, before, now)
 
+  -- one at least for each box that the container named
+  pub own_held : (b : ℕ) → IsNamedBy k o b v → 0 < references_held k b r.log
+  own_held b n =
+      let counted_one = is_counted k o b v shape n in
+      let at_s : named_in_words b (kind_in s.shape.starts o) (held_words o s) ≡ named_in_words b (kind_in v.shape.starts o) (held_words o v) = ap (λ (z : View). named_in_words b (kind_in z.shape.starts o) (held_words o z)) started in
+      let moved = moves b in
+      let after = names_none b in
+      let now : references_held k b r.log ≡ references_held r.shape b r.log = ap (λ (z : Shape). references_held z b r.log) (sym (shape_rooted ∙ shape_started)) in
+      omega (arith, counted_one, at_s, moved, after, now)
+
   -- they are few for each box
   pub old_few : (b : ℕ) → references_held k b r.log ≤ 65536
   old_few b = by old refl
@@ -203,6 +221,23 @@ module _ (heads : Heads) (k : Shape) (o : ℕ) (old : Option Table) (table : Tab
 
     pub raised_held : HoldsOld k o old x
     raised_held b = let same = raised_old b in let counts = old_counts b in let up = more b in omega (arith, same, counts, up)
+
+-- the boxes that the new table names are kept then: by the locks of other containers, or by those references
+pub kept_rooted : (k : Shape) (o : ℕ) (old : Option Table) (table : Table) (f : ℕ) (v s r : View) → Emptied k o old table f v s r → ∥ IsReachable r ∥₁ → NamesKept k o (table_id table) r
+kept_rooted k o old table f v s r e possible p low four =
+    let t : ℕ = table_id table in
+    let at : ℕ = value_at (kind_in k.starts o) (class_of t) p in
+    let hand = hand_emptied k o old table f v s r e in
+    let q = e.named p low (ap (λ (l : List ℕ). slice_index l at) (sym hand) ∙ four) in
+    let n : ℕ = slice_index (in_hand t v) (suc at) in
+    subst (λ (b : ℕ). IsBoxName k b × KeepsBox k b r.log) (ap (λ (l : List ℕ). slice_index l (suc at)) (sym hand)) (
+      is_box k q.0 n v e.shape q.1 e.possible,
+      dite (ℕ_discrete q.0 o)
+          (λ (is : q.0 ≡ o). inl (own_held e.heads k o old table f v s r e.shape e.may e.started e.rooted e.root_held e.moves n (subst (λ (z : ℕ). IsNamedBy k z n v) is q.1)))
+          (λ ne.
+          let same = others_emptied k o old table f v s r e q.0 q.1.container ne q.1.locked in
+          is_kept k q.0 n r (shape_emptied k o old table f v s r e ∙ e.shape) (named_on k q.0 n v r same.0 (locks_emptied k o old table f v s r e q.0) q.1) possible),
+    )
 
 module _ (k : Shape) (o : ℕ) (old : Option Table) (table : Table) (called : Call) (left : Content) (f : ℕ) (v s r x d : View) (e : Swapping k o old table called left f v s r x d) where
   abbrev t : ℕ
@@ -250,6 +285,17 @@ module _ (k : Shape) (o : ℕ) (old : Option Table) (table : Table) (called : Ca
       let same = raised_old e.before.heads k o old table f v s r e.before.shape e.before.may e.before.started e.before.rooted e.before.root_held e.before.moves x e.raises up n in
       let bare : named_in_root n (kind_in k.starts o) (suc t) (in_hand t r) ≡ named_in_root n (kind_in k.starts o) (suc t) raw = ap (named_in_root n (kind_in k.starts o) (suc t)) hand_bare in
       omega (arith, counts, more, less, same, bare)
+
+  -- what the pass knew of the values in boxes it knows still
+  keeps_both : KeepsValues r d
+  keeps_both =
+      let shape_r : r.shape ≡ k = shape_bare ∙ e.before.shape in
+      keeps_more r x d e.raises.work.pass.shape
+      (λ b.
+      let more = e.raised b in
+      let now : references_held x.shape b x.log ≡ references_held k b x.log = ap (λ (z : Shape). references_held z b x.log) (e.raises.work.pass.shape ∙ shape_r) in
+      let was : references_held r.shape b r.log ≡ references_held k b r.log = ap (λ (z : Shape). references_held z b r.log) shape_r in
+      omega (arith, more, now, was)) e.raise_keeps e.drop_keeps
 
   -- what the pass did since the root was put
   written : OnlyWritten o r d
@@ -383,12 +429,55 @@ module _ (k : Shape) (o : ℕ) (old : Option Table) (table : Table) (called : Ca
           ap (λ (z : View). held_unboxed q z) made ∙ (both.unboxed q low_r mine_r ∙ bare.1),
         )
 
+    -- the box of a row of the new table
+    abbrev box_at : ℕ → ℕ
+    box_at p = slice_index raw (suc (value_at (kind_in k.starts o) class p))
+
+    -- where the container named it itself
+    own_row : (p : ℕ) → p < rows (kind_in k.starts o) class → slice_index raw (value_at (kind_in k.starts o) class p) ≡ 4 → IsNamedBy k o (box_at p) v → KnowsWords (box_at p) c × SameWords (box_at p) v c
+    own_row p low four mine =
+        let n : ℕ = box_at p in
+        let name = subst (λ (z : Shape). IsBoxName z n) (sym e.before.shape) (is_box k o n v e.before.shape mine e.before.possible) in
+        let known = is_known k o n v e.before.shape mine e.before.possible in
+        let held_k = own_held e.before.heads k o old table f v s r e.before.shape e.before.may e.before.started e.before.rooted e.before.root_held e.before.moves n mine in
+        let held = subst (λ (z : Shape). 0 < references_held z n r.log) (sym (shape_bare ∙ e.before.shape)) held_k in
+        let all = all_held n in
+        let some_ = row_counts n (kind_in k.starts o) class raw (rows (kind_in k.starts o) class) p low four refl in
+        let still_k : 0 < references_held k n d.log = omega (arith, all, some_) in
+        let still = subst (λ (z : Shape). 0 < references_held z n d.log) (sym (shape_then ∙ e.before.shape)) still_k in
+        let old_root : ℕ = root_in (held_words o v) in (
+          own_known o f old_root n number called reply.Done snap v r d c both_rooted e.possible name known held both.work.pass.shape keeps_both still made,
+          own_same o f old_root n number called reply.Done snap v r d c both_rooted e.possible name known held both.work.pass.shape keeps_both still made,
+        )
+
+    same_row : (p i : ℕ) → p < rows (kind_in k.starts o) class → slice_index raw (value_at (kind_in k.starts o) class p) ≡ 4 → (i ≡ 1) ⊎ (i ≡ 2) → known_box_word c.shape (box_at p) i c.log ≡ known_box_word v.shape (box_at p) i v.log
+    same_row p i low four which =
+        let n : ℕ = box_at p in
+        let q = e.before.named p low four in
+        dite (ℕ_discrete q.0 o)
+        (λ (is : q.0 ≡ o).
+        let own = (own_row p low four (subst (λ (z : ℕ). IsNamedBy k z n v) is q.1)).1 in
+        ⊎_elim
+        (λ (one : i ≡ 1). subst (λ (z : ℕ). known_box_word c.shape n z c.log ≡ known_box_word v.shape n z v.log) (sym one) own.0)
+        (λ (two : i ≡ 2). subst (λ (z : ℕ). known_box_word c.shape n z c.log ≡ known_box_word v.shape n z v.log) (sym two) own.1)
+        which)
+        (λ ne.
+        let others = others_c q.0 q.1.container ne q.1.locked in
+        named_value k q.0 n i v c e.before.shape shape_c others.0 others.1 (locks_c q.0) q.1 which)
+
+    known_row : ∥ IsReachable c ∥₁ → (p : ℕ) → p < rows (kind_in k.starts o) class → slice_index raw (value_at (kind_in k.starts o) class p) ≡ 4 → KnowsWords (box_at p) c
+    known_row possible p low four =
+        let n : ℕ = box_at p in
+        let q = e.before.named p low four in
+        dite (ℕ_discrete q.0 o)
+        (λ (is : q.0 ≡ o). (own_row p low four (subst (λ (z : ℕ). IsNamedBy k z n v) is q.1)).0)
+        (λ ne.
+        let others = others_c q.0 q.1.container ne q.1.locked in
+        is_known k q.0 n c shape_c (named_on k q.0 n v c others.0 (locks_c q.0) q.1) possible)
+
     -- so the new table reads as it did
     reads_c : hand_unboxed o t c ≡ ws
-    reads_c = others_read k o t v c e.before.shape shape_c hand_then others_c locks_c e.before.named
-
-    others_names : NamesOthers k o t c
-    others_names = others_on k o t v c hand_then others_c locks_c e.before.named
+    reads_c = rows_read k o t v c e.before.shape shape_c hand_then same_row
 
     held_c_all : (n : ℕ) → references_held c.shape n c.log ≡ named_in_root n (kind_in c.shape.starts o) (suc t) (in_hand t c)
     held_c_all n =
@@ -400,8 +489,9 @@ module _ (k : Shape) (o : ℕ) (old : Option Table) (table : Table) (called : Ca
     known_c : ∥ IsReachable c ∥₁ → (n : ℕ) → named_in_root n (kind_in c.shape.starts o) (suc t) (in_hand t c) ≢ 0 → (knows_box_word c.shape n 1 c.log ≡ true) × (knows_box_word c.shape n 2 c.log ≡ true)
     known_c possible n some_ =
         let row = named_some n (kind_in k.starts o) class (in_hand t c) (rows (kind_in k.starts o) class) (λ z. some_ (ap (λ (y : Shape). named_in_root n (kind_in y.starts o) (suc t) (in_hand t c)) shape_c ∙ z)) in
-        let by = others_names row.0 row.1 row.2 in
-        is_known k by.0 n c shape_c (subst (λ (x : ℕ). IsNamedBy k by.0 x c) row.3 by.2) possible
+        let four : slice_index raw (value_at (kind_in k.starts o) class row.0) ≡ 4 = ap (λ (l : List ℕ). slice_index l (value_at (kind_in k.starts o) class row.0)) (sym hand_then) ∙ row.2 in
+        let is : box_at row.0 ≡ n = ap (λ (l : List ℕ). slice_index l (suc (value_at (kind_in k.starts o) class row.0))) (sym hand_then) ∙ row.3 in
+        subst (λ (b : ℕ). KnowsWords b c) is (known_row possible row.0 row.1 four)
 
     sound_here : SoundAs (kind_in c.shape.starts o) c.shape.texts class (hand_unboxed o t c) (known_state o c).content
     sound_here =

@@ -1,6 +1,6 @@
--- A dict that gets a copy of another one shares the boxes of its values: its new table names the boxes that the table of
--- that one names.
-use Rattle.std.specs.Prelude.{◌≡◌, ◌≢◌, ℕ, suc, ◌+◌, ◌<◌, true, List, ◌∷◌, [], filter, slice_index}
+-- A dict that gets a copy of another one, or of itself, shares the boxes of its values: its new table names the boxes that
+-- the table of that one names.
+use Rattle.std.specs.Prelude.{◌≡◌, ℕ, suc, ◌+◌, ◌<◌, true, List, ◌∷◌, [], filter, slice_index}
 use Rattle.ft_model.specs.Classes.{IsClass}
 use Rattle.ft_model.specs.Worlds.{serial_of}
 use Rattle.ft_layout.specs.Containers.{class_mask}
@@ -8,8 +8,8 @@ use Rattle.ft_layout.specs.Tables.{UsedEntry, is_live, IsDictTable}
 use Rattle.ft_trace.specs.declared.Shape.{Shape}
 use Rattle.ft_trace.specs.declared.View.{View}
 use Rattle.ft_trace.specs.Acts.{has_lock}
-use Rattle.ft_trace.specs.Addresses.{class_of, container_count}
-use Rattle.ft_trace.specs.Boxes.{value_at}
+use Rattle.ft_trace.specs.Addresses.{class_of, container_count, IsBoxName}
+use Rattle.ft_trace.specs.Boxes.{value_at, KeepsBox}
 use Rattle.ft_trace.specs.BoxWords.{box_kind}
 use Rattle.ft_trace.specs.ContainerStates.{kind_in}
 use Rattle.ft_trace.specs.Holds.{held_words, in_hand, known_state}
@@ -28,14 +28,22 @@ pub record IsNamedBy (k : Shape) (q b : ℕ) (v : View) : Type 0 where
   pub kind_is : slice_index (held_words q v).table (value_at (kind_in k.starts q) (class_of table) row) ≡ box_kind
   pub payload_is : slice_index (held_words q v).table (suc (value_at (kind_in k.starts q) (class_of table) row)) ≡ b
 
--- Each box that the table t in the pass's hand names, read as one of the container o, is named by another container whose
--- lock the pass has. (profile)
-abbrev pub NamesOthers : Shape → ℕ → ℕ → View → Type 0
-NamesOthers k o t v =
+-- Each box that the table t in the pass's hand names, read as one of the container o, is named by a container whose lock
+-- the pass has, which may be o. (profile)
+abbrev pub NamesLocked : Shape → ℕ → ℕ → View → Type 0
+NamesLocked k o t v =
     (p : ℕ) → p < rows (kind_in k.starts o) (class_of t)
     → slice_index (in_hand t v) (value_at (kind_in k.starts o) (class_of t) p) ≡ box_kind
-    → (q : ℕ) × (q ≢ o)
-    × IsNamedBy k q (slice_index (in_hand t v) (suc (value_at (kind_in k.starts o) (class_of t) p))) v
+    → (q : ℕ) × IsNamedBy k q (slice_index (in_hand t v) (suc (value_at (kind_in k.starts o) (class_of t) p))) v
+
+-- Each box that the table t in the pass's hand names, read as one of the container o, is one of the bank, and is kept: the
+-- pass holds a reference for it, or has the lock of a container that names it. (profile)
+abbrev pub NamesKept : Shape → ℕ → ℕ → View → Type 0
+NamesKept k o t v =
+    (p : ℕ) → p < rows (kind_in k.starts o) (class_of t)
+    → slice_index (in_hand t v) (value_at (kind_in k.starts o) (class_of t) p) ≡ box_kind
+    → IsBoxName k (slice_index (in_hand t v) (suc (value_at (kind_in k.starts o) (class_of t) p)))
+    × KeepsBox k (slice_index (in_hand t v) (suc (value_at (kind_in k.starts o) (class_of t) p))) v.log
 
 -- used entries with other serials, which rise one by one from this one
 abbrev pub numbered_from : ℕ → List UsedEntry → List UsedEntry
@@ -52,10 +60,10 @@ pub record SharesEntries
   pub had : IsDictTable texts (class_mask from_class) used (0 ∷ 0 ∷ from)
   pub has : IsDictTable texts (class_mask class) (numbered_from next (filter is_live used)) (0 ∷ 0 ∷ words)
 
--- The table that the dict e has after the call shares its entries with the one that another dict, d, had before it.
--- (profile)
+-- The table that the dict e has after the call shares its entries with the one that the dict d, which may be e, had before
+-- it. (profile)
 abbrev pub SharesPairs : Shape → ℕ → ℕ → View → View → Type 0
 SharesPairs k d e v w =
-    (s t : ℕ) → d ≢ e → root_in (held_words d v) ≡ suc s → root_in (held_words e w) ≡ suc t
+    (s t : ℕ) → root_in (held_words d v) ≡ suc s → root_in (held_words e w) ≡ suc t
     → SharesEntries k.texts (serial_of (known_state e v).content) (class_of s) (held_words d v).table (class_of t)
     (held_words e w).table

@@ -1,5 +1,5 @@
 //! A dict that gets a copy of another one, or of itself: its pairs in their order, with new serials.
-ghost use Rattle.std.specs.Prelude.{◌≡◌, ◌≢◌, ◌+◌, ◌^◌, ◌<◌, ◌≤◌, false, Some};
+ghost use Rattle.std.specs.Prelude.{◌≡◌, ◌+◌, ◌^◌, ◌<◌, ◌≤◌, false, Some};
 ghost use Rattle.ft_model.specs.declared.content.Content.TheVariants as content;
 ghost use Rattle.ft_model.specs.declared.reply.Reply.TheVariants as reply;
 ghost use Rattle.ft_model.specs.declared.script.Kind.TheVariants as kind;
@@ -21,7 +21,7 @@ ghost use Rattle.ft_new_keys.specs.Fresh.{IsFilledWith};
 ghost use Rattle.ft_new_keys.specs.KeyGrowth.{KnowsKeyed, MayAddKey};
 ghost use Rattle.ft_new_keys.specs.Placing.{AreCounts};
 ghost use Rattle.ft_replacing.specs.Replacing.{IsReplaced, Replaces, copied};
-ghost use Rattle.ft_replacing.specs.Sharing.{NamesOthers, SharesEntries, SharesPairs};
+ghost use Rattle.ft_replacing.specs.Sharing.{NamesLocked, SharesEntries, SharesPairs};
 
 use crate::numbering::renumber;
 use crate::sharing::{Copying, share_copy};
@@ -66,17 +66,8 @@ fn fill_copy(
     renumber(bank, pass, table, counts.count, next);
 }
 
-/// The table of the dict d whose boxes a copy for the dict e shares: that of another dict. A dict that gets a copy of its
-/// own pairs gets the values in place.
-fn shared_from(d: u32, e: u32, from: Option<Table>) -> Option<Table>
-    ensures shared { (t : Table) → result ≡ Some t → (d ≢ e) × (from ≡ Some t) }
-    ensures all { d ≢ e → result ≡ from }
-{
-    if d == e { None } else { from }
-}
-
-/// Fills a table that is fresh in hand with the pairs of the dict d for the dict e, with new serials. Where that is
-/// another one, the values have the boxes in which they stand.
+/// Fills a table that is fresh in hand with the pairs of the dict d for the dict e, with new serials. The values have the
+/// boxes in which they stand.
 fn fill_for(bank: &Bank, pass: &mut Pass, d: u32, e: u32, from: Option<Table>, copying: &Copying)
     requires pass { IsPassOf bank.now pass.old }
     requires keyed { KnowsKeyed (shape_of bank.now) d from (view pass.old) }
@@ -94,13 +85,13 @@ fn fill_for(bank: &Bank, pass: &mut Pass, d: u32, e: u32, from: Option<Table>, c
         given.next ≡ copying.now.next →
         IsFilledWith (shape_of bank.now).texts (class_of (table_id copying.now.table))
         (content.Dict (dict_copy given pairs.pairs)) (hand_unboxed e (table_id copying.now.table) (view pass.new)) }
-    ensures named { NamesOthers (shape_of bank.now) e (table_id copying.now.table) (view pass.new) }
-    ensures shares { (own : Table) → from ≡ Some own → d ≢ e →
+    ensures named { NamesLocked (shape_of bank.now) e (table_id copying.now.table) (view pass.new) }
+    ensures shares { (own : Table) → from ≡ Some own →
         SharesEntries (shape_of bank.now).texts copying.now.next (class_of (table_id own))
         (held_words d (view pass.old)).table (class_of (table_id copying.now.table))
         (in_hand (table_id copying.now.table) (view pass.new)) }
 {
-    match shared_from(d, e, from) {
+    match from {
         Some(own) => share_copy(bank, pass, d, e, own, copying),
         None => {
             fill_copy(
@@ -182,8 +173,8 @@ fn copy_in_taken(
 
 /// Copies a dict to another one, or to itself, by a pass that has the locks of both: it gets the pairs in their order,
 /// with new serials, in a table of the class for that many, and none where there are no pairs. What the dict had is
-/// gone, and its table retired. A value that stands in a box stands in that box in both dicts then; a dict that is copied
-/// to itself has its values in place.
+/// gone, and its table retired. A value that stands in a box stands in that box in both dicts then; those of a dict that
+/// is copied to itself stay in their boxes.
 ///
 /// # Errors
 ///

@@ -1,10 +1,10 @@
-//! The boxes that a table names which a container is to get, and which another container names: their counts are raised
-//! for the new table, whose words have the references once its root is put.
+//! The boxes that a table names which a container is to get, and which a container names as well or named before: their
+//! counts are raised for the new table, whose words have the references once its root is put.
 ghost use Rattle.std.specs.Prelude.{◌≡◌, ◌≢◌, ℕ, suc, ◌+◌, ◌<◌, ◌≤◌, slice_index};
 ghost use Rattle.ft_model.specs.Classes.{IsClass};
 ghost use Rattle.ft_trace.specs.Acts.{stage};
-ghost use Rattle.ft_trace.specs.Addresses.{class_of, size};
-ghost use Rattle.ft_trace.specs.Boxes.{named_in_root, names_box, references_held, IsSettled};
+ghost use Rattle.ft_trace.specs.Addresses.{class_of, size, IsBoxName};
+ghost use Rattle.ft_trace.specs.Boxes.{named_in_root, names_box, references_held, IsSettled, KeepsBox};
 ghost use Rattle.ft_trace.specs.BoxWords.{box_kind};
 ghost use Rattle.ft_trace.specs.ContainerStates.{kind_in};
 ghost use Rattle.ft_trace.specs.Holds.{in_hand};
@@ -13,9 +13,10 @@ ghost use Rattle.ft_bank.specs.PassSections.{stack_of};
 ghost use Rattle.ft_bank.specs.SameBoxes.{GainsRaised, HoldsFew, StaysSettled};
 ghost use Rattle.ft_bank.specs.TableNames.{table_id, IsPlaceOf, IsTableIn};
 ghost use Rattle.ft_bank.specs.Whole.{OnlyBoxed};
+ghost use Rattle.ft_boxes.specs.References.{KeepsValues};
 ghost use Rattle.ft_table_calls.specs.Dropping.{AreValuePlaces};
 ghost use Rattle.ft_search.specs.Rounds.{kind_by};
-ghost use Rattle.ft_replacing.specs.Sharing.{IsNamedBy, NamesOthers};
+ghost use Rattle.ft_replacing.specs.Sharing.{NamesKept};
 
 use ft_bank::{Bank, Pass, Table};
 use ft_keys::{Way, room_of};
@@ -50,13 +51,15 @@ fn raise_value(bank: &Bank, pass: &mut Pass, table: Table, start: u64, word: u64
     requires word { word + 1 < size (class_of (table_id table)) }
     requires settled { IsSettled (view pass.old).log }
     requires few { HoldsFew (view pass.old) }
-    requires named { slice_index (in_hand (table_id table) (view pass.old)) word ≡ box_kind →
-        (q : ℕ) × IsNamedBy (shape_of bank.now) q
-        (slice_index (in_hand (table_id table) (view pass.old)) (word + 1)) (view pass.old) }
+    requires kept { slice_index (in_hand (table_id table) (view pass.old)) word ≡ box_kind →
+        IsBoxName (shape_of bank.now) (slice_index (in_hand (table_id table) (view pass.old)) (word + 1))
+        × KeepsBox (shape_of bank.now) (slice_index (in_hand (table_id table) (view pass.old)) (word + 1))
+        (view pass.old).log }
     ensures pass { IsPassOf bank.now pass.new }
     ensures stack { stack_of pass.new ≡ stack_of pass.old }
     ensures only { OnlyBoxed (view pass.old) (view pass.new) }
     ensures stays { StaysSettled (view pass.old) (view pass.new) }
+    ensures values { KeepsValues (view pass.old) (view pass.new) }
     ensures gains { GainsRaised (view pass.old) (view pass.new) }
     ensures references { (b : ℕ) → references_held (shape_of bank.now) b (view pass.new).log ≡
         references_held (shape_of bank.now) b (view pass.old).log
@@ -72,7 +75,8 @@ fn raise_value(bank: &Bank, pass: &mut Pass, table: Table, start: u64, word: u64
 }
 
 /// Raises the count of each box that a table names which is fresh in hand and which the container o is to get, as often
-/// as it names it: another container names the box, whose lock the pass has. The pass holds few references for each box.
+/// as it names it: a container names the box whose lock the pass has, or the pass holds a reference for it. The pass holds
+/// few references for each box.
 pub(crate) fn raise_values(bank: &Bank, pass: &mut Pass, o: u32, table: Table, places: ValuePlaces)
     requires pass { IsPassOf bank.now pass.old }
     requires table { IsTableIn (shape_of bank.now) table }
@@ -80,11 +84,12 @@ pub(crate) fn raise_values(bank: &Bank, pass: &mut Pass, o: u32, table: Table, p
     requires places { AreValuePlaces (kind_in (shape_of bank.now).starts o) (class_of (table_id table)) places }
     requires settled { IsSettled (view pass.old).log }
     requires few { (b : ℕ) → references_held (shape_of bank.now) b (view pass.old).log ≤ 65536 }
-    requires named { NamesOthers (shape_of bank.now) o (table_id table) (view pass.old) }
+    requires kept { NamesKept (shape_of bank.now) o (table_id table) (view pass.old) }
     ensures pass { IsPassOf bank.now pass.new }
     ensures stack { stack_of pass.new ≡ stack_of pass.old }
     ensures only { OnlyBoxed (view pass.old) (view pass.new) }
     ensures stays { StaysSettled (view pass.old) (view pass.new) }
+    ensures values { KeepsValues (view pass.old) (view pass.new) }
     ensures gains { GainsRaised (view pass.old) (view pass.new) }
     ensures references { (b : ℕ) → references_held (shape_of bank.now) b (view pass.new).log ≡
         references_held (shape_of bank.now) b (view pass.old).log

@@ -1,6 +1,6 @@
-//! A fresh table that gets the pairs of a dict for another dict: each value that stands in a box has its box there as
-//! well, whose count is raised before the table is put into a root.
-ghost use Rattle.std.specs.Prelude.{◌≡◌, ◌≢◌, ℕ, ◌+◌, ◌*◌, ◌^◌, ◌<◌, ◌≤◌, List, length, filter, ◌∷◌, Some};
+//! A fresh table that gets the pairs of a dict for another dict, or for itself: each value that stands in a box has its box
+//! there as well, whose count is raised before the table is put into a root.
+ghost use Rattle.std.specs.Prelude.{◌≡◌, ℕ, ◌+◌, ◌*◌, ◌^◌, ◌<◌, ◌≤◌, List, length, filter, ◌∷◌, Some};
 ghost use Rattle.ft_hash.specs.Probes.{IsMask};
 ghost use Rattle.ft_keys.specs.TableChanges.{Moves, Rebuilds};
 ghost use Rattle.ft_keys.specs.declared.walk.Way.TheVariants as way;
@@ -23,7 +23,7 @@ ghost use Rattle.ft_table_calls.specs.Adding.{OnlyFilled};
 ghost use Rattle.ft_new_keys.specs.Fresh.{CanFill, FreshMade, HasZeroWords, IsFilledWith, old_entries};
 ghost use Rattle.ft_new_keys.specs.KeyGrowth.{KnowsKeyed};
 ghost use Rattle.ft_new_keys.specs.Placing.{AreCounts};
-ghost use Rattle.ft_replacing.specs.Sharing.{NamesOthers, SharesEntries};
+ghost use Rattle.ft_replacing.specs.Sharing.{NamesLocked, SharesEntries};
 
 use crate::numbering::renumber;
 use ft_bank::{Bank, Pass, Table};
@@ -89,12 +89,16 @@ fn share_table(bank: &Bank, pass: &mut Pass, d: u32, own: Table, table: Table, f
     used_entries_follow_a_set();
     let mask = mask_of(table.class);
     let old_mask = mask_of(own.class);
+    let old_start = bank.cell_of(own);
+    let start = bank.cell_of(table);
     let mut words = FreshWords {
         bank,
         pass,
         o: d,
         old: own,
         old_mask,
+        old_start,
+        start,
         table,
         mask,
         in_place: false,
@@ -102,8 +106,8 @@ fn share_table(bank: &Bank, pass: &mut Pass, d: u32, own: Table, table: Table, f
     rebuild_in(&mut words, mask, fill);
 }
 
-/// Fills a table that is fresh in hand with the pairs of a dict, which get new serials, for another dict: the values
-/// have the boxes in which they stand.
+/// Fills a table that is fresh in hand with the pairs of the dict d, which get new serials, for the dict e, which may be
+/// d: the values have the boxes in which they stand.
 pub(crate) fn share_copy(
     bank: &Bank,
     pass: &mut Pass,
@@ -116,7 +120,6 @@ pub(crate) fn share_copy(
     requires keyed { KnowsKeyed (shape_of bank.now) d (Some own) (view pass.old) }
     requires dict { kind_in (shape_of bank.now).starts d ≡ kind.Dict }
     requires other_dict { kind_in (shape_of bank.now).starts e ≡ kind.Dict }
-    requires other { d ≢ e }
     requires counts { AreCounts (held_unboxed d (view pass.old)).block copying.now.counts }
     requires table { IsTableIn (shape_of bank.now) copying.now.table }
     requires fresh { stage (table_id copying.now.table) (view pass.old).log ≡ 1 }
@@ -129,7 +132,7 @@ pub(crate) fn share_copy(
         given.next ≡ copying.now.next →
         IsFilledWith (shape_of bank.now).texts (class_of (table_id copying.now.table))
         (content.Dict (dict_copy given pairs.pairs)) (hand_unboxed e (table_id copying.now.table) (view pass.new)) }
-    ensures named { NamesOthers (shape_of bank.now) e (table_id copying.now.table) (view pass.new) }
+    ensures named { NamesLocked (shape_of bank.now) e (table_id copying.now.table) (view pass.new) }
     ensures shares { SharesEntries (shape_of bank.now).texts copying.now.next (class_of (table_id own))
         (held_words d (view pass.old)).table (class_of (table_id copying.now.table))
         (in_hand (table_id copying.now.table) (view pass.new)) }

@@ -19,7 +19,7 @@ ghost use Rattle.ft_new_keys.specs.Fresh.{IsFilledWith};
 ghost use Rattle.ft_new_keys.specs.KeyGrowth.{MayGrowKeyed};
 ghost use Rattle.ft_new_keys.specs.Placing.{counted};
 ghost use Rattle.ft_replacing.specs.Replacing.{Replaces};
-ghost use Rattle.ft_replacing.specs.Sharing.{NamesOthers};
+ghost use Rattle.ft_replacing.specs.Sharing.{NamesLocked};
 
 use crate::raising::{raise_values, value_places};
 use ft_bank::{Bank, Pass, Table};
@@ -48,8 +48,8 @@ fn put_counts(bank: &Bank, pass: &mut Pass, o: u32, count: u64, next: u64)
 }
 
 /// Gives a dict or a set this table, which has what it gets, as the write of the call. Where a value of the table stands
-/// in a box, another container names the box, whose lock the pass has: the new words get a reference of their own.
-/// Answers the number of the write.
+/// in a box, a container names the box whose lock the pass has, this one or another: the new words get a reference of
+/// their own, before the old ones lose theirs. Answers the number of the write.
 pub fn swap_table(
     bank: &Bank,
     pass: &mut Pass,
@@ -70,7 +70,7 @@ pub fn swap_table(
         × IsFilledWith (shape_of bank.now).texts (class_of (table_id table)) left
         (hand_unboxed o (table_id table) (view pass.old))
         × Replaces o called.now left (Some (class_of (table_id table))) (view pass.old) }
-    requires named { NamesOthers (shape_of bank.now) o (table_id table) (view pass.old) }
+    requires named { NamesLocked (shape_of bank.now) o (table_id table) (view pass.old) }
     ensures pass { IsPassOf bank.now pass.new }
     ensures stack { stack_of pass.new ≡ stack_of pass.old }
     ensures wrote { Wrote called.now reply.Done result (view pass.old) (view pass.new) }

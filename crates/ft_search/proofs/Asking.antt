@@ -1,5 +1,5 @@
 -- From what a look-up shows to what a call may answer, for dicts and sets.
-use Rattle.std.proofs.Common.{◌≤◌, ◌≡◌, ℕ, ◌<◌, List, [], ◌∷◌, ◌++◌, Some, None, sym, ap, ◌∙◌, subst, true, false, append_assoc, refl, inl}
+use Rattle.std.proofs.Common.{◌≤◌, ◌≡◌, ℕ, ◌<◌, List, [], ◌∷◌, ◌++◌, Some, None, sym, ap, ◌∙◌, subst, Bool, true, false, append_assoc, refl, inl}
 use Rattle.ft_model.specs.declared.call.Call.{Call}
 use Rattle.ft_model.specs.declared.call.Call.TheVariants as call
 use Rattle.ft_model.specs.declared.call.SetCall.TheVariants as set
@@ -11,7 +11,7 @@ use Rattle.ft_model.specs.declared.script.Kind.TheVariants as kind
 use Rattle.ft_layout.specs.declared.slot.Stored.TheVariants.{Plain}
 use Rattle.ft_layout.specs.Words.{FitsKey, IsStored}
 use Rattle.ft_trace.specs.declared.Act.{Act}
-use Rattle.ft_trace.specs.declared.Act.TheVariants.{ReadBlock, ReadRoot, ReadTable, ReadCounter, ReadBox, Version, Answer}
+use Rattle.ft_trace.specs.declared.Act.TheVariants.{AnswerCursor, Commit, ReadBlock, ReadRoot, ReadTable, ReadCounter, ReadBox, Version, Answer}
 use Rattle.ft_trace.specs.declared.Shape.{Shape}
 use Rattle.ft_trace.specs.declared.View.{View}
 use Rattle.ft_trace.specs.Acts.{view_after, shown}
@@ -33,7 +33,9 @@ use Rattle.ft_bank.specs.WriteSteps.{MayHave}
 use Rattle.ft_bank.proofs.Seen.{answered_seen}
 use Rattle.ft_bank.proofs.KnownAfterWrites.{loaded_by, loaded_then}
 use Rattle.ft_bank.proofs.ShownReplies.{dict_hits_are_shown, values_are_read, set_hits_are_shown, misses_are_shown, replies_under_locks_are_shown}
-use Rattle.ft_search.specs.KeyLooks.{AreLooks, ShowsHere, ShowsAbsent, Stops, IsKeyContended}
+use Rattle.ft_search.specs.KeyLooks.{AnsweredByLook, AreLooks, ShowsHere, ShowsAbsent, Stops, IsKeyContended}
+use Rattle.ft_search.specs.LookSteps.{is_look_step, Only, AreLookSteps, OnlyLooked}
+use Rattle.ft_search.proofs.LookSteps.{steps_tail}
 
 -- loads make no entry
 pub looks_own : (l : List Act) → AreLooks l → AreOfOneCall l
@@ -56,22 +58,46 @@ looks_newer (ReadCounter f ∷ l) rest q = looks_newer l rest q
 looks_newer (ReadBox c j f ∷ l) rest q = looks_newer l rest q
 looks_newer (act ∷ l) rest q = absurd q
 
--- a pass that has loaded the counter and words of the bank may ask of a container
-pub may_ask : (v w : View) (k : Shape) (o n : ℕ) (part : List Act) → OnlyLoaded v w → AreLooks part → w.log ≡ part ++ v.log → IsLastLoad n part → w.shape ≡ k → o < container_count k → 0 < v.left → MayAsk w o n
-may_ask v w k o n part loaded looks own counted same low left = record {
+-- nor do the other steps of look-ups
+steps_own : (l : List Act) → AreLookSteps l → AreOfOneCall l
+steps_own [] q = tt
+steps_own (Commit c r f s ∷ l) q = absurd q
+steps_own (Answer c r f ∷ l) q = absurd q
+steps_own (AnswerCursor c r f number had left ∷ l) q = absurd q
+steps_own (act ∷ l) q = steps_own l (steps_tail act l q)
+
+steps_newer : (newer rest : List Act) → AreLookSteps (newer ++ rest) → AreLookSteps newer
+steps_newer [] rest q = tt
+steps_newer (act ∷ l) rest q = by (is_look_step act) (steps_newer l rest) q
+  where
+    by : (s : Bool) → (AreLookSteps (l ++ rest) → AreLookSteps l) → Only s (AreLookSteps (l ++ rest)) → Only s (AreLookSteps l)
+    by true more q = more q
+    by false more q = absurd q
+
+-- a pass that has loaded the counter may ask of a container
+asked_by : (v w : View) (k : Shape) (o n : ℕ) (part : List Act) → w.left ≡ v.left → w.log ≡ part ++ v.log → (counted : IsLastLoad n part) → AreOfOneCall counted.newer → w.shape ≡ k → o < container_count k → 0 < v.left → MayAsk w o n
+asked_by v w k o n part fewer own counted newer same low left = record {
   low = subst (λ (z : Shape). o < container_count z) (sym same) low;
-  left = subst (λ (z : ℕ). 0 < z) (sym loaded.work.left) left;
+  left = subst (λ (z : ℕ). 0 < z) (sym fewer) left;
   loaded = record {
     newer = counted.newer;
     rest = counted.rest ++ v.log;
     is = own ∙ (ap (λ (z : List Act). z ++ v.log) counted.is ∙ append_assoc counted.newer (ReadCounter n ∷ counted.rest) v.log);
-    own = looks_own counted.newer (looks_newer counted.newer (ReadCounter n ∷ counted.rest) (subst AreLooks counted.is looks));
+    own = newer;
   };
 }
 
-module _ (v w : View) (k : Shape) (o : ℕ) (key : Key) (n : ℕ) (part : List Act) (loaded : OnlyLoaded v w) (looks : AreLooks part) (own : w.log ≡ part ++ v.log) (counted : IsLastLoad n part) (same : w.shape ≡ k) (low : o < container_count k) (left : 0 < v.left) (fits : FitsKey key) where
+pub may_ask : (v w : View) (k : Shape) (o n : ℕ) (part : List Act) → OnlyLoaded v w → AreLooks part → w.log ≡ part ++ v.log → IsLastLoad n part → w.shape ≡ k → o < container_count k → 0 < v.left → MayAsk w o n
+may_ask v w k o n part loaded looks own counted same low left =
+    asked_by v w k o n part loaded.work.left own counted (looks_own counted.newer (looks_newer counted.newer (ReadCounter n ∷ counted.rest) (subst AreLooks counted.is looks))) same low left
+
+pub may_ask_on : (v w : View) (k : Shape) (o n : ℕ) (part : List Act) → OnlyLooked v w → AreLookSteps part → w.log ≡ part ++ v.log → IsLastLoad n part → w.shape ≡ k → o < container_count k → 0 < v.left → MayAsk w o n
+may_ask_on v w k o n part looked looks own counted same low left =
+    asked_by v w k o n part looked.boxed.work.left own counted (steps_own counted.newer (steps_newer counted.newer (ReadCounter n ∷ counted.rest) (subst AreLookSteps counted.is looks))) same low left
+
+module _ (v w : View) (k : Shape) (o : ℕ) (key : Key) (n : ℕ) (part : List Act) (looked : OnlyLooked v w) (looks : AreLookSteps part) (own : w.log ≡ part ++ v.log) (counted : IsLastLoad n part) (same : w.shape ≡ k) (low : o < container_count k) (left : 0 < v.left) (fits : FitsKey key) where
   ask : MayAsk w o n
-  ask = may_ask v w k o n part loaded looks own counted same low left
+  ask = may_ask_on v w k o n part looked looks own counted same low left
 
   pub key_absent : kind_in k.starts o ≡ kind.Dict → ShowsAbsent k o key n w.log → KeyIsShown w o key None n
   key_absent is shows =
@@ -105,9 +131,14 @@ pub answered_after : (shows : List Act → Type 0) (v w z : View) (called : Call
 answered_after shows v w z called said n part loaded own counted is settled possible so =
     (record { before = w; loaded = loaded; part = part; own = own; counted = counted; answered = is; seen = answered_seen v w z called said part n own counted is settled possible }, so)
 
-pub contended_after : (v w : View) (k : Shape) (o : ℕ) (key : Key) (a b : ℕ) (part : List Act) → v.shape ≡ k → OnlyLoaded v w → AreLooks part → w.log ≡ part ++ v.log → Stops k o key a b part → IsKeyContended o key a b v w
-contended_after v w k o key a b part same loaded looks own stops =
-    record { loaded = loaded; part = part; looks = looks; own = own; stops = subst (λ (z : Shape). Stops z o key a b part) (sym same) stops }
+-- an entry that follows steps of a look-up
+pub looked_after : (shows : List Act → Type 0) (v w z : View) (called : Call) (said : Reply) (n : ℕ) (part : List Act) → OnlyLooked v w → w.log ≡ part ++ v.log → IsLastLoad n part → z ≡ view_after (Answer called said n) w → v.learnt ≤ shown v.log → ∥ IsReachable z ∥₁ → shows part → (x : AnsweredByLook called said n v z) × shows x.part
+looked_after shows v w z called said n part looked own counted is settled possible so =
+    (record { before = w; looked = looked; part = part; own = own; counted = counted; answered = is; seen = answered_seen v w z called said part n own counted is settled possible }, so)
+
+pub contended_after : (v w : View) (k : Shape) (o : ℕ) (key : Key) (a b : ℕ) (part : List Act) → v.shape ≡ k → OnlyLooked v w → AreLookSteps part → w.log ≡ part ++ v.log → Stops k o key a b part → IsKeyContended o key a b v w
+contended_after v w k o key a b part same looked looks own stops =
+    record { looked = looked; part = part; looks = looks; own = own; stops = subst (λ (z : Shape). Stops z o key a b part) (sym same) stops }
 
 -- ---- under the lock, with the stamp that is loaded then
 

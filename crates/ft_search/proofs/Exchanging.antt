@@ -1,5 +1,5 @@
 -- An exchange of a value: what the pass knows of the box that the old one names.
-use Rattle.std.proofs.Common.{◌≡◌, ◌≢◌, ℕ, suc, ◌+◌, ◌-◌, ◌<◌, eqb, cond, true, List, [], ◌∷◌, refl, sym, ap, ◌∙◌, subst, arith}
+use Rattle.std.proofs.Common.{◌≡◌, ◌≢◌, ℕ, ◌+◌, ◌-◌, ◌<◌, true, List, [], ◌∷◌, refl, sym, ap, ◌∙◌, subst, arith}
 use Rattle.std.specs.Prelude.{slice_index}
 use mathlib.Core.Logic.{dite}
 use native.Mathlib.Decide.{ℕ_discrete}
@@ -21,7 +21,7 @@ use Rattle.ft_bank.specs.BoxSteps.{HasReferenceFor, IsOpenValue, kind_read, payl
 use Rattle.ft_bank.specs.SameBoxes.{HoldsFew}
 use Rattle.ft_bank.specs.Series.{noted_all}
 use Rattle.ft_bank.specs.TableNames.{table_id}
-use Rattle.ft_bank.specs.Whole.{OnlyLoaded, OnlyPut}
+use Rattle.ft_bank.specs.Whole.{OnlyPut}
 use Rattle.ft_bank.proofs.DoneBoxes.{stays_settled_same}
 use Rattle.ft_search.specs.Boxed.{IsKnownBox, WritesTable}
 use Rattle.ft_search.proofs.Overs.{table_done, value_known, reads_now, boxed_names, named_own}

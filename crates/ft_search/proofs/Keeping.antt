@@ -1,10 +1,8 @@
 -- What a pass knows of the values in boxes stays in loads, and in puts of words of a container whose lock it has.
 use Rattle.std.proofs.Common.{◌≡◌, ℕ, ◌+◌, ◌<◌, ◌≤◌, Bool, true, false, cond, List, [], ◌∷◌, refl, sym, ap, ◌∙◌, subst, arith}
 use Rattle.std.specs.Prelude.{◌==◌}
-use Rattle.ft_layout.specs.declared.slot.Ref.{Ref}
 use Rattle.ft_layout.specs.declared.slot.Stored.TheVariants.{Plain}
 use Rattle.ft_layout.specs.Words.{IsStored}
-use Rattle.ft_model.specs.declared.data.Value.{Value}
 use Rattle.ft_trace.specs.declared.Act.{Act}
 use Rattle.ft_trace.specs.declared.Act.TheVariants.{PutTable}
 use Rattle.ft_trace.specs.declared.Shape.{Shape}
@@ -17,10 +15,9 @@ use Rattle.ft_trace.specs.Traces.{IsReachable}
 use Rattle.ft_trace.proofs.BoxKnown.{sure_after, sure_stays}
 use Rattle.ft_trace.proofs.Sums.{sum_at}
 use Rattle.ft_bank.specs.BoxSteps.{box_id, value_acts, IsBoxIn}
-use Rattle.ft_bank.specs.SameBoxes.{SameReferences}
 use Rattle.ft_bank.specs.Series.{noted_all}
 use Rattle.ft_bank.specs.Whole.{OnlyLoaded}
-use Rattle.ft_boxes.specs.References.{HoldsBox, KeepsValues, KnowsValue}
+use Rattle.ft_boxes.specs.References.{HoldsBox, KeepsValues}
 use Rattle.ft_boxes.proofs.Steps.{keeps_same}
 use Rattle.ft_search.specs.Boxed.{KeepsOwn}
 use Rattle.ft_search.proofs.Owning.{held_is_box}

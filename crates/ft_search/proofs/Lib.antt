@@ -4,6 +4,11 @@ pub mod Running
 pub mod BoxLoads
 mod Walking
 mod SearchEnds
+pub mod LoadedLooks
+pub mod LookSteps
+pub mod SeenNames
+mod BoxReads
+mod RaisedReads
 pub mod Rounding
 pub mod Asking
 pub mod FoundInContents
@@ -21,7 +26,6 @@ pub mod Keeping
 pub mod NamedEntries
 pub mod Exchanging
 pub mod SearchedReads
-pub mod HitBoxes
 pub mod ReadyCommits
 pub mod Laws
 pub mod Spotting
@@ -32,4 +36,5 @@ mod Costing
 pub mod IndexWordsStay
 mod Bounding
 pub mod Spending
+pub mod LookMoments
 pub mod Undisturbed

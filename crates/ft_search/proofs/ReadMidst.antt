@@ -18,10 +18,12 @@ use Rattle.ft_bank.specs.Answered.{Answered}
 use Rattle.ft_bank.specs.Passes.{shape_of, view, IsPassOf}
 use Rattle.ft_bank.specs.PassSections.{stack_of}
 use Rattle.ft_bank.specs.Whole.{OnlyLoaded}
-use Rattle.ft_bank.proofs.DoneBoxes.{done_same}
+use Rattle.ft_bank.proofs.DoneBoxes.{done_same, done_stays}
 use Rattle.ft_bank.proofs.KnownAfterWrites.{work_knows}
 use Rattle.ft_section.specs.Ready.{IsStill, IsMaking}
 use Rattle.ft_section.proofs.MidstOfCall.{making_stays}
+use Rattle.ft_search.specs.KeyLooks.{AnsweredByLook}
+use Rattle.ft_search.specs.LookSteps.{OnlyLooked}
 
 -- the call begins no section and ends none
 abbrev pub LeavesSections : Call → Type 0
@@ -62,6 +64,43 @@ pub making_read : (b : Bank) (p q : Pass) (called : Call) (said : Reply) (n : �
 making_read b p q called said n leaves m pass stack a =
     let r = sections_read called said n (view p) (view q) leaves a in
     making_stays b p q m pass stack r.0 r.1 r.2 (still_read called said n (view p) (view q) a m.inside.1.still)
+
+-- ---- steps of look-ups
+
+-- they leave a pass that is in the midst of no write and no taking
+pub still_looked : (v u : View) → OnlyLooked v u → IsStill v → IsStill u
+still_looked v u o s =
+    let work = o.boxed.work in
+    record {
+      even = λ p. work.pass.writes p ∙ s.even p;
+      hands = λ t. ⊎_elim (λ (x : stage t v.log ≡ 0). inl (work.hands t ∙ x)) (λ (x : stage t v.log ≡ 4). inr (work.hands t ∙ x)) (s.hands t);
+      used = work.used ∙ s.used;
+      owes = work.owes ∙ s.owes;
+      flight = work.pass.flight ∙ s.flight;
+      boxes = done_stays v u o.made (λ b. o.references b ∙ s.boxes.none b) s.boxes;
+      stands = λ p low has.
+          let low' = subst (λ (k : Shape). p < container_count k) work.pass.shape low in
+          let mine = sym (work.pass.locks p) ∙ has in
+          let read = o.boxed.unboxed p low' mine in
+          subst (λ (x : Shape × ContainerWords × ContainerState). Represents x.0.texts x.1 x.2) (sym (λ d. (work.pass.shape d, read d, work_knows v u p work d))) (s.stands p low' mine);
+    }
+
+-- and so does the entry of a call by them
+pub still_look : (called : Call) (said : Reply) (n : ℕ) (v w : View) → AnsweredByLook called said n v w → IsStill v → IsStill w
+still_look called said n v w a s = subst IsStill (sym a.answered) (still_answered called said n a.before (still_looked v a.before a.looked s))
+
+pub sections_looked : (called : Call) (said : Reply) (n : ℕ) (v w : View) → LeavesSections called → AnsweredByLook called said n v w → (w.shape ≡ v.shape) × ((o : ℕ) → has_lock o w.log ≡ has_lock o v.log) × (begun w.log ≡ begun v.log)
+sections_looked called said n v w leaves a =
+    let pass = a.looked.boxed.work.pass in (
+      ap (λ z. z.shape) a.answered ∙ pass.shape,
+      (λ o. ap (λ z. has_lock o z.log) a.answered ∙ pass.locks o),
+      ap (λ z. begun z.log) a.answered ∙ (leaves n a.before.log (begun a.before.log) ∙ pass.begun),
+    )
+
+pub making_looked : (b : Bank) (p q : Pass) (called : Call) (said : Reply) (n : ℕ) → LeavesSections called → IsMaking b p → IsPassOf b q → stack_of q ≡ stack_of p → AnsweredByLook called said n (view p) (view q) → IsMaking b q
+making_looked b p q called said n leaves m pass stack a =
+    let r = sections_looked called said n (view p) (view q) leaves a in
+    making_stays b p q m pass stack r.0 r.1 r.2 (still_look called said n (view p) (view q) a m.inside.1.still)
 
 -- what such a pass knows of a container whose lock it has
 pub making_stands : (b : Bank) (p : Pass) (texts : List ℕ) (o : ℕ) → IsMaking b p → (view p).shape.texts ≡ texts → o < container_count (view p).shape → has_lock o (view p).log ≡ true → Represents texts (held_unboxed o (view p)) (known_state o (view p))

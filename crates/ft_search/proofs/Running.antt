@@ -1,13 +1,13 @@
 -- Steps of a pass, one after the other, and calls on words as such steps.
 use Rattle.std.proofs.Common.{◌≡◌, ℕ, suc, List, [], ◌∷◌, ◌++◌, map, true, refl, sym, ap, ◌∙◌, subst}
 use Rattle.ft_trace.specs.declared.Act.{Act}
-use Rattle.ft_trace.specs.declared.Act.TheVariants.{ReadRoot, ReadTable, ReadCounter, ReadBox, Version}
+use Rattle.ft_trace.specs.declared.Act.TheVariants.{ReadRoot, ReadTable}
 use Rattle.ft_trace.specs.declared.Shape.{Shape}
 use Rattle.ft_trace.specs.declared.View.{View}
-use Rattle.ft_trace.specs.Acts.{view_after, reads, announces}
+use Rattle.ft_trace.specs.Acts.{view_after, reads}
 use Rattle.ft_trace.specs.Addresses.{class_of, slots}
 use Rattle.ft_trace.specs.Pictures.{entry_offset}
-use Rattle.ft_trace.specs.LoggedLookUps.{Online, LookUpWindow, Inner, ReadsNoRoot}
+use Rattle.ft_trace.specs.LoggedLookUps.{Online, LookUpWindow}
 use Rattle.ft_trace.proofs.Cases.{hit}
 use Rattle.ft_keys.specs.declared.words.Access.{Access}
 use Rattle.ft_keys.specs.declared.words.Access.TheVariants.{Index, Entry, PutIndex, PutEntry, OldEntry}
@@ -75,55 +75,15 @@ ran s (a ∷ calls) t r =
     let act : DidAll (access_act s.o (table_id s.table) a ∷ []) m.pass.now t.pass.now = at_same (λ k o n. DidAll (access_act o n a ∷ []) m.pass.now t.pass.now) s m old.0 g.did in
     (same_trans s m t old.0 g.same, did_trans (access_act s.o (table_id s.table) a ∷ []) (map (access_act s.o (table_id s.table)) calls) s.pass.now m.pass.now t.pass.now old.1 act)
 
--- ---- loads that read no root and announce nothing
-
-pub inner_append : (b a : List Act) → Inner b → Inner a → Inner (b ++ a)
-inner_append [] a x y = y
-inner_append (Version o f ∷ b) a x y = inner_append b a x y
-inner_append (ReadTable t i f ∷ b) a x y = inner_append b a x y
-inner_append (ReadCounter f ∷ b) a x y = inner_append b a x y
-inner_append (ReadBox c j f ∷ b) a x y = inner_append b a x y
-inner_append (act ∷ b) a x y = absurd x
-
-pub inner_calls : (o t : ℕ) (calls : List Access) → AreLoads calls → Inner (map (access_act o t) calls)
-inner_calls o t [] q = tt
-inner_calls o t (Index slot x ∷ calls) q = inner_calls o t calls q.1
-inner_calls o t (Entry place word x ∷ calls) q = inner_calls o t calls q.1
-inner_calls o t (PutIndex slot x ∷ calls) q = absurd q.0
-inner_calls o t (PutEntry place word x ∷ calls) q = absurd q.0
-inner_calls o t (OldEntry place word x ∷ calls) q = inner_calls o t calls q.1
-
-pub inner_online : (l : List Act) → Inner l → Online l
-inner_online [] q = tt
-inner_online (Version o f ∷ l) q = inner_online l q
-inner_online (ReadTable t i f ∷ l) q = inner_online l q
-inner_online (ReadCounter f ∷ l) q = inner_online l q
-inner_online (ReadBox c j f ∷ l) q = inner_online l q
-inner_online (act ∷ l) q = absurd q
-
-pub inner_roots : (l : List Act) → Inner l → ReadsNoRoot l
-inner_roots [] q = tt
-inner_roots (Version o f ∷ l) q = inner_roots l q
-inner_roots (ReadTable t i f ∷ l) q = inner_roots l q
-inner_roots (ReadCounter f ∷ l) q = inner_roots l q
-inner_roots (ReadBox c j f ∷ l) q = inner_roots l q
-inner_roots (act ∷ l) q = absurd q
-
-pub inner_announces : (l rest : List Act) → Inner l → announces (l ++ rest) ≡ announces rest
-inner_announces [] rest q = refl
-inner_announces (Version o f ∷ l) rest q = inner_announces l rest q
-inner_announces (ReadTable t i f ∷ l) rest q = inner_announces l rest q
-inner_announces (ReadCounter f ∷ l) rest q = inner_announces l rest q
-inner_announces (ReadBox c j f ∷ l) rest q = inner_announces l rest q
-inner_announces (act ∷ l) rest q = absurd q
+-- ---- between two reads of a root
 
 -- what was done between two reads of the root that named t
-pub window_of : (o t : ℕ) (part rest : List Act) (p q : Pass) → DidAll (ReadRoot o (suc t) ∷ part) p q → (view p).log ≡ ReadRoot o (suc t) ∷ rest → Inner part → LookUpWindow (view q).log o t part
-window_of o t part rest p q did last inner = record {
+pub window_of : (o t : ℕ) (part rest : List Act) (p q : Pass) → DidAll (ReadRoot o (suc t) ∷ part) p q → (view p).log ≡ ReadRoot o (suc t) ∷ rest → Online part → LookUpWindow (view q).log o t part
+window_of o t part rest p q did last online = record {
   newer = [];
   rest = ReadRoot o (suc t) ∷ rest;
   is = did_log (ReadRoot o (suc t) ∷ part) p q did ∙ ap (λ (z : List Act). ReadRoot o (suc t) ∷ (part ++ z)) last;
-  online = inner_online part inner;
+  online = online;
   before = hit (suc t) true (reads t rest);
 }
 

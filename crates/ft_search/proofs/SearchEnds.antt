@@ -1,5 +1,5 @@
 -- How a search of a table ends: what its loads show, once the root is read again.
-use Rattle.std.proofs.Common.{◌≡◌, ◌≢◌, ◌⊎◌, ℕ, suc, ◌%◌, ◌<◌, Bool, true, false, List, [], ◌∷◌, ◌++◌, length, refl, sym, ap, ◌∙◌, subst, inl, inr, arith, append-nil, length-append}
+use Rattle.std.proofs.Common.{◌≡◌, ◌≢◌, ◌⊎◌, ℕ, suc, ◌%◌, ◌<◌, List, [], ◌∷◌, ◌++◌, length, refl, sym, ap, ◌∙◌, subst, inl, inr, ⊎_elim, arith, append_assoc, append-nil, length-append}
 use Rattle.std.specs.Prelude.{slice_index}
 use mathlib.Core.Logic.{dite}
 use native.Mathlib.Decide.{ℕ_discrete}
@@ -8,19 +8,28 @@ use Rattle.ft_layout.specs.Words.{key_kind, gone_kind, key_payload}
 use Rattle.ft_trace.specs.declared.Act.{Act}
 use Rattle.ft_trace.specs.declared.Act.TheVariants.{ReadBox, ReadTable, ReadCounter}
 use Rattle.ft_trace.specs.declared.Shape.{Shape}
-use Rattle.ft_trace.specs.Addresses.{class_of, container_count, slots, IsBoxName}
+use Rattle.ft_trace.specs.Addresses.{class_of, slots}
 use Rattle.ft_trace.specs.Pictures.{entry_offset, walk_of}
-use Rattle.ft_trace.specs.Kinds.{rows, IsKeyed}
+use Rattle.ft_trace.specs.Kinds.{rows}
 use Rattle.ft_trace.specs.ContainerStates.{kind_in}
-use Rattle.ft_trace.specs.LoggedReads.{Among}
-use Rattle.ft_trace.specs.LoggedLookUps.{Passed, Hit, Miss, Full, LookUpWindow, Inner}
+use Rattle.ft_trace.specs.LoggedLookUps.{Passed, Hit, Miss, Full, LookUpWindow, IsReadAt}
+use Rattle.ft_bank.specs.LastLoads.{IsLastLoad}
+use Rattle.ft_bank.proofs.LastLoads.{loads_none}
 use Rattle.ft_search.specs.declared.reading.SeenEntry.{SeenEntry}
 use Rattle.ft_search.specs.declared.looks.Looked.TheVariants.{Here, Absent}
-use Rattle.ft_search.specs.KeyLooks.{StopsAtEntry}
-use Rattle.ft_search.specs.Boxed.{box_acts, SeesValue}
-use Rattle.ft_search.specs.Rounds.{entry_acts, entry_acts_as, same_acts, met_acts, live_acts, Walked, ClosesAt}
-use Rattle.ft_search.proofs.HitBoxes.{hit_box}
+use Rattle.ft_search.specs.KeyLooks.{StopsInTable}
+use Rattle.ft_search.specs.Rounds.{same_acts, met_acts, live_acts, SeesWhole, IsVersionMoved, IsBoxMoved, Walked, ClosesAt}
+use Rattle.ft_search.proofs.LoadedLooks.{among_in}
+use Rattle.ft_search.proofs.LookSteps.{boxes_are_steps}
 use Rattle.ft_search.proofs.Walking.{visit_or_beyond, slot_at, each_slot}
+
+-- a value that was read among some loads was read among more
+read_in : (t kind_at payload_at kind payload : ℕ) (new mid old : List Act) → IsReadAt t kind_at payload_at kind payload mid → IsReadAt t kind_at payload_at kind payload (new ++ (mid ++ old))
+read_in t kind_at payload_at kind payload new mid old how =
+    ⊎_elim
+    (λ h. inl ((h.0.0, h.0.1, among_in (ReadTable t kind_at h.0.0) new mid old h.0.2), among_in (ReadTable t kind_at kind) new mid old h.1, among_in (ReadTable t payload_at payload) new mid old h.2))
+    (λ h. inr (h.0, (among_in (ReadTable t kind_at 4) new mid old h.1.0, among_in (ReadTable t payload_at h.0) new mid old h.1.1), among_in (ReadBox h.0 1 kind) new mid old h.2, among_in (ReadBox h.0 2 payload) new mid old h.3))
+    how
 
 module _ (k : Shape) (o t : ℕ) (key : Key) (slot place : ℕ) (earlier : List Act) where
   abbrev N : ℕ
@@ -64,69 +73,153 @@ module _ (k : Shape) (o t : ℕ) (key : Key) (slot place : ℕ) (earlier : List 
       visit_or_beyond t m slot key (entry 3 found ∷ met (key_kind key)) (entry 3 found ∷ seen_kind (key_kind key)) earlier place refl
       (inr (inl (record { found = found; apart = apart; newer = []; mid = seen_kind (key_kind key); rest = earlier; is = refl })))
 
-  -- an entry that was found to be another's, or deleted, since
-  moved_as : (b : Bool) (seen : SeenEntry) → seen.closed ≡ seen.opened → seen.opened % 2 ≡ 0 → seen.key_kind ≢ key_kind key → Passed (entry_acts_as b t place seen ++ live) t m slot key
-  moved_as true seen steady even other =
-      let boxes : List Act = box_acts true seen.payload seen.value.kind seen.value.value in
-      let mid : List Act = ReadCounter seen.number ∷ (boxes ++ (entry 5 seen.payload ∷ (entry 4 seen.found_kind ∷ []))) in
-      let after : List Act = entry 0 seen.closed ∷ mid in
-      let whole = entry_acts_as true t place seen ++ live in
-      visit_or_beyond t m slot key whole (entry_acts_as true t place seen ++ seen_key) earlier place refl
-      (dite (ℕ_discrete seen.key_kind (gone_kind key))
-      (λ (gone : seen.key_kind ≡ gone_kind key).
-      inr (inr (record {
-        version = seen.closed;
-        even = ap (λ (z : ℕ). z % 2) steady ∙ even;
-        newer = [];
-        mid = mid;
-        rest = entry 0 seen.opened ∷ live;
-        is = ap (λ (z : ℕ). after ++ entry 2 z ∷ (entry 0 seen.opened ∷ live)) gone;
-        before = entry_acts_as true t place seen ++ seen_key;
-        older = earlier;
-        named = refl;
-      })))
-      (λ apart.
-      inl (record {
-        found = seen.key_kind;
-        live = other;
-        dead = apart;
-        newer = after;
-        mid = entry 0 seen.opened ∷ seen_key;
-        rest = earlier;
-        is = refl;
-      })))
-  moved_as false seen steady even other =
-      let boxes : List Act = box_acts false seen.payload seen.value.kind seen.value.value in
-      let mid : List Act = ReadCounter seen.number ∷ (boxes ++ (entry 5 seen.payload ∷ (entry 4 seen.found_kind ∷ []))) in
-      let after : List Act = entry 0 seen.closed ∷ mid in
-      let whole = entry_acts_as false t place seen ++ live in
-      visit_or_beyond t m slot key whole (entry_acts_as false t place seen ++ seen_key) earlier place refl
-      (dite (ℕ_discrete seen.key_kind (gone_kind key))
-      (λ (gone : seen.key_kind ≡ gone_kind key).
-      inr (inr (record {
-        version = seen.closed;
-        even = ap (λ (z : ℕ). z % 2) steady ∙ even;
-        newer = [];
-        mid = mid;
-        rest = entry 0 seen.opened ∷ live;
-        is = ap (λ (z : ℕ). after ++ entry 2 z ∷ (entry 0 seen.opened ∷ live)) gone;
-        before = entry_acts_as false t place seen ++ seen_key;
-        older = earlier;
-        named = refl;
-      })))
-      (λ apart.
-      inl (record {
-        found = seen.key_kind;
-        live = other;
-        dead = apart;
-        newer = after;
-        mid = entry 0 seen.opened ∷ seen_key;
-        rest = earlier;
-        is = refl;
-      })))
+  -- the loads of an entry that was read, after what was loaded before
+  module _ (seen : SeenEntry) (acts : List Act) (r : SeesWhole t place seen acts) where
+    abbrev closed : Act
+    closed = entry 0 seen.closed
 
-  pub moved_passed : (seen : SeenEntry) → seen.closed ≡ seen.opened → seen.opened % 2 ≡ 0 → seen.key_kind ≢ key_kind key → Passed (entry_acts t place seen ++ live) t m slot key
-  moved_passed seen = moved_as seen.value.boxed seen
+    abbrev opened : Act
+    opened = entry 0 seen.opened
+
+    abbrev stamped : Act
+    stamped = ReadCounter seen.number
+
+    abbrev kind_load : Act
+    kind_load = entry 2 seen.key_kind
+
+    read_is : (l : List Act) → acts ++ l ≡ r.dropped ++ closed ∷ (stamped ∷ (r.mid ++ kind_load ∷ (opened ∷ l)))
+    read_is l =
+        ap (λ (z : List Act). z ++ l) r.is
+        ∙ (append_assoc r.dropped (closed ∷ (stamped ∷ (r.mid ++ kind_load ∷ (opened ∷ [])))) l
+        ∙ ap (λ (z : List Act). r.dropped ++ closed ∷ (stamped ∷ z)) (append_assoc r.mid (kind_load ∷ (opened ∷ [])) l))
+
+    -- by the kind of the key
+    by_kind : (l : List Act) → acts ++ l ≡ (r.dropped ++ closed ∷ (stamped ∷ r.mid)) ++ kind_load ∷ (opened ∷ l)
+    by_kind l = read_is l ∙ sym (append_assoc r.dropped (closed ∷ (stamped ∷ r.mid)) (kind_load ∷ (opened ∷ l)))
+
+    -- by the version at first
+    by_version : (l : List Act) → acts ++ l ≡ r.dropped ++ closed ∷ ((stamped ∷ (r.mid ++ kind_load ∷ [])) ++ opened ∷ l)
+    by_version l = read_is l ∙ ap (λ (z : List Act). r.dropped ++ closed ∷ (stamped ∷ z)) (sym (append_assoc r.mid (kind_load ∷ []) (opened ∷ l)))
+
+    -- an entry that was found to be another's, or deleted, since
+    pub moved_passed : seen.closed ≡ seen.opened → seen.opened % 2 ≡ 0 → seen.key_kind ≢ key_kind key → Passed (acts ++ live) t m slot key
+    moved_passed steady even other =
+        let named : acts ++ live ≡ (acts ++ seen_key) ++ ReadTable t slot (suc place) ∷ earlier = sym (append_assoc acts seen_key (ReadTable t slot (suc place) ∷ earlier)) in
+        visit_or_beyond t m slot key (acts ++ live) (acts ++ seen_key) earlier place named
+        (dite (ℕ_discrete seen.key_kind (gone_kind key))
+        (λ (gone : seen.key_kind ≡ gone_kind key).
+        inr (inr (record {
+          version = seen.closed;
+          even = ap (λ (z : ℕ). z % 2) steady ∙ even;
+          newer = r.dropped;
+          mid = stamped ∷ r.mid;
+          rest = opened ∷ live;
+          is = read_is live ∙ ap (λ (z : ℕ). r.dropped ++ closed ∷ (stamped ∷ (r.mid ++ entry 2 z ∷ (opened ∷ live)))) gone;
+          before = acts ++ seen_key;
+          older = earlier;
+          named = named;
+        })))
+        (λ apart.
+        inl (record {
+          found = seen.key_kind;
+          live = other;
+          dead = apart;
+          newer = r.dropped ++ closed ∷ (stamped ∷ r.mid);
+          mid = opened ∷ seen_key;
+          rest = earlier;
+          is = by_kind live;
+        })))
+
+    -- the version of the entry was odd, or changed
+    pub stops_seen : place < m → (seen.opened % 2 ≢ 0) ⊎ (seen.closed ≢ seen.opened) → StopsInTable k o t key seen.opened seen.closed (acts ++ live)
+    stops_seen low why = inl (record {
+      place = place;
+      low = low;
+      newer = r.dropped;
+      mid = stamped ∷ (r.mid ++ kind_load ∷ []);
+      rest = live;
+      is = by_version live;
+      moved = why;
+      payload_read = record { newer = []; rest = met (key_kind key); is = refl };
+      kind_read = inl (record { newer = entry 3 (key_payload key) ∷ []; rest = same; is = refl });
+    })
+
+    -- the counter was loaded last between the two loads of the version
+    stamped_last : IsLastLoad seen.number (acts ++ live)
+    stamped_last = record {
+      newer = r.dropped ++ closed ∷ [];
+      rest = r.mid ++ kind_load ∷ (opened ∷ live);
+      is = read_is live ∙ sym (append_assoc r.dropped (closed ∷ []) (stamped ∷ (r.mid ++ kind_load ∷ (opened ∷ live))));
+      none = loads_none r.dropped (closed ∷ []) (boxes_are_steps r.dropped r.drops).1 refl;
+    }
+
+    -- the entry was there all the while
+    abbrev hit_there : (log : List Act) → LookUpWindow log o t (acts ++ live) → seen.closed ≡ seen.opened → seen.opened % 2 ≡ 0 → seen.key_kind ≡ key_kind key → Hit log o t place key seen.number
+    hit_there log window steady even stays = record {
+      walk = acts ++ live;
+      window = window;
+      version = seen.opened;
+      even = even;
+      mid = stamped ∷ (r.mid ++ kind_load ∷ []);
+      newer = r.dropped;
+      rest = live;
+      is = by_version live ∙ ap (λ (z : ℕ). r.dropped ++ entry 0 z ∷ ((stamped ∷ (r.mid ++ kind_load ∷ [])) ++ opened ∷ live)) steady;
+      live = record { newer = stamped ∷ r.mid; rest = []; is = ap (λ (z : ℕ). stamped ∷ (r.mid ++ entry 2 z ∷ [])) stays };
+      stamp = record { newer = []; rest = r.mid ++ kind_load ∷ []; is = refl };
+      searched = [];
+      before = same;
+      between = [];
+      key_is = refl;
+    }
+
+    pub closes_here : place < m → seen.closed ≡ seen.opened → seen.opened % 2 ≡ 0 → seen.key_kind ≡ key_kind key → ClosesAt k o t key (acts ++ live) (Here seen.kind seen.value seen.number)
+    closes_here inside steady even stays = (
+      (λ w shape possible window.
+          record {
+            t = t;
+            place = place;
+            low = inside;
+            hit = hit_there w.log window steady even stays;
+            read = read_in t (entry_offset N place 4) (entry_offset N place 5) seen.kind seen.value (stamped ∷ []) r.mid (kind_load ∷ []) r.value;
+          }),
+      stamped_last,
+    )
+
+  -- the version stopped it before the value was read in its box, or the count of the box did
+  pub stops_read : (a b : ℕ) (acts : List Act) → place < m → IsVersionMoved t place a b acts ⊎ IsBoxMoved t place a b acts → StopsInTable k o t key a b (acts ++ live)
+  stops_read a b acts low how =
+      ⊎_elim
+      (λ (h : IsVersionMoved t place a b acts).
+      inl (record {
+        place = place;
+        low = low;
+        newer = [];
+        mid = h.mid;
+        rest = live;
+        is = ap (λ (z : List Act). z ++ live) h.is ∙ ap (λ (z : List Act). entry 0 b ∷ z) (append_assoc h.mid (entry 0 a ∷ []) live);
+        moved = h.moved;
+        payload_read = record { newer = []; rest = met (key_kind key); is = refl };
+        kind_read = inl (record { newer = entry 3 (key_payload key) ∷ []; rest = same; is = refl });
+      }))
+      (λ (h : IsBoxMoved t place a b acts).
+      inr (record {
+        place = place;
+        low = low;
+        box = h.box;
+        version = h.version;
+        even = h.even;
+        newer = h.raised;
+        mid = h.mid;
+        rest = live;
+        is = ap (λ (z : List Act). z ++ live) h.is
+            ∙ (append_assoc h.raised (entry 0 h.version ∷ (h.mid ++ entry 0 h.version ∷ [])) live
+            ∙ ap (λ (z : List Act). h.raised ++ entry 0 h.version ∷ z) (append_assoc h.mid (entry 0 h.version ∷ []) live));
+        names = h.names;
+        count = h.count;
+        payload_read = record { newer = []; rest = met (key_kind key); is = refl };
+        kind_read = record { newer = entry 3 (key_payload key) ∷ []; rest = same; is = refl };
+      }))
+      how
 
   -- a deleted entry with an even version
   pub deleted_passed : (version : ℕ) → version % 2 ≡ 0 → Passed (entry 0 version ∷ met (gone_kind key)) t m slot key
@@ -144,36 +237,8 @@ module _ (k : Shape) (o t : ℕ) (key : Key) (slot place : ℕ) (earlier : List 
         named = refl;
       })))
 
-  -- the version of the entry was odd, or changed
-  stops_as : (b : Bool) → place < m → (seen : SeenEntry) → (seen.opened % 2 ≢ 0) ⊎ (seen.closed ≢ seen.opened) → StopsAtEntry k o t key seen.opened seen.closed (entry_acts_as b t place seen ++ live)
-  stops_as true low seen why = record {
-    place = place;
-    low = low;
-    newer = [];
-    mid = ReadCounter seen.number ∷ (box_acts true seen.payload seen.value.kind seen.value.value ++ (entry 5 seen.payload ∷ (entry 4 seen.found_kind ∷ (entry 2 seen.key_kind ∷ []))));
-    rest = live;
-    is = refl;
-    moved = why;
-    payload_read = record { newer = []; rest = met (key_kind key); is = refl };
-    kind_read = inl (record { newer = entry 3 (key_payload key) ∷ []; rest = same; is = refl });
-  }
-  stops_as false low seen why = record {
-    place = place;
-    low = low;
-    newer = [];
-    mid = ReadCounter seen.number ∷ (box_acts false seen.payload seen.value.kind seen.value.value ++ (entry 5 seen.payload ∷ (entry 4 seen.found_kind ∷ (entry 2 seen.key_kind ∷ []))));
-    rest = live;
-    is = refl;
-    moved = why;
-    payload_read = record { newer = []; rest = met (key_kind key); is = refl };
-    kind_read = inl (record { newer = entry 3 (key_payload key) ∷ []; rest = same; is = refl });
-  }
-
-  pub stops_seen : place < m → (seen : SeenEntry) → (seen.opened % 2 ≢ 0) ⊎ (seen.closed ≢ seen.opened) → StopsAtEntry k o t key seen.opened seen.closed (entry_acts t place seen ++ live)
-  stops_seen low seen = stops_as seen.value.boxed low seen
-
-  pub stops_deleted : place < m → (opened closed : ℕ) → opened % 2 ≢ 0 → StopsAtEntry k o t key opened closed (entry 0 closed ∷ (entry 0 opened ∷ met (gone_kind key)))
-  stops_deleted low opened closed odd = record {
+  pub stops_deleted : place < m → (opened closed : ℕ) → opened % 2 ≢ 0 → StopsInTable k o t key opened closed (entry 0 closed ∷ (entry 0 opened ∷ met (gone_kind key)))
+  stops_deleted low opened closed odd = inl (record {
     place = place;
     low = low;
     newer = [];
@@ -183,126 +248,7 @@ module _ (k : Shape) (o t : ℕ) (key : Key) (slot place : ℕ) (earlier : List 
     moved = inl odd;
     payload_read = record { newer = entry 2 (gone_kind key) ∷ []; rest = ReadTable t slot (suc place) ∷ earlier; is = refl };
     kind_read = inr (record { newer = []; rest = same; is = refl });
-  }
-
-  -- the entry was there all the while
-  abbrev hit_as : (b : Bool) (seen : SeenEntry) (log : List Act) → LookUpWindow log o t (entry_acts_as b t place seen ++ live) → seen.closed ≡ seen.opened → seen.opened % 2 ≡ 0 → seen.key_kind ≡ key_kind key → Hit log o t place key seen.number
-  hit_as true seen log window steady even stays =
-      let boxes : List Act = box_acts true seen.payload seen.value.kind seen.value.value in
-      let stamped : Act = ReadCounter seen.number in
-      let kind_load : Act = entry 4 seen.found_kind in
-      let value_load : Act = entry 5 seen.payload in
-      let live_load : Act = entry 2 (key_kind key) in
-      let mid : List Act = stamped ∷ (boxes ++ (value_load ∷ (kind_load ∷ (live_load ∷ [])))) in
-      record {
-        walk = entry_acts_as true t place seen ++ live;
-        window = window;
-        version = seen.opened;
-        even = even;
-        mid = mid;
-        newer = [];
-        rest = live;
-        is = λ d. entry 0 (steady d) ∷ (stamped ∷ (boxes ++ (value_load ∷ (kind_load ∷ (entry 2 (stays d) ∷ (entry 0 seen.opened ∷ live))))));
-        live = record { newer = stamped ∷ (boxes ++ (value_load ∷ (kind_load ∷ []))); rest = []; is = refl };
-        stamp = record { newer = []; rest = boxes ++ (value_load ∷ (kind_load ∷ (live_load ∷ []))); is = refl };
-        searched = [];
-        before = same;
-        between = [];
-        key_is = refl;
-      }
-  hit_as false seen log window steady even stays =
-      let boxes : List Act = box_acts false seen.payload seen.value.kind seen.value.value in
-      let stamped : Act = ReadCounter seen.number in
-      let kind_load : Act = entry 4 seen.found_kind in
-      let value_load : Act = entry 5 seen.payload in
-      let live_load : Act = entry 2 (key_kind key) in
-      let mid : List Act = stamped ∷ (boxes ++ (value_load ∷ (kind_load ∷ (live_load ∷ [])))) in
-      record {
-        walk = entry_acts_as false t place seen ++ live;
-        window = window;
-        version = seen.opened;
-        even = even;
-        mid = mid;
-        newer = [];
-        rest = live;
-        is = λ d. entry 0 (steady d) ∷ (stamped ∷ (boxes ++ (value_load ∷ (kind_load ∷ (entry 2 (stays d) ∷ (entry 0 seen.opened ∷ live))))));
-        live = record { newer = stamped ∷ (boxes ++ (value_load ∷ (kind_load ∷ []))); rest = []; is = refl };
-        stamp = record { newer = []; rest = boxes ++ (value_load ∷ (kind_load ∷ (live_load ∷ []))); is = refl };
-        searched = [];
-        before = same;
-        between = [];
-        key_is = refl;
-      }
-
-  module _ (low : o < container_count k) (keyed : IsKeyed (kind_in k.starts o)) where
-    here_as : (b : Bool) (seen : SeenEntry) → place < m → seen.closed ≡ seen.opened → seen.opened % 2 ≡ 0 → seen.key_kind ≡ key_kind key
-        → (b ≡ true → seen.found_kind ≡ 4) × (b ≡ false → (seen.value.kind ≡ seen.found_kind) × (seen.value.value ≡ seen.payload) × (seen.found_kind ≡ 4 → ¬ IsBoxName k seen.payload))
-        → ClosesAt k o t key (entry_acts_as b t place seen ++ live) (Here seen.value.kind seen.value.value seen.number)
-    here_as true seen inside steady even stays sees =
-        let stamped : Act = ReadCounter seen.number in
-        let kind_box : Act = ReadBox seen.payload 1 seen.value.kind in
-        let value_box : Act = ReadBox seen.payload 2 seen.value.value in
-        let kind_load : Act = entry 4 seen.found_kind in
-        let value_load : Act = entry 5 seen.payload in
-        let live_load : Act = entry 2 (key_kind key) in
-        let four = sees.0 refl in (
-          (λ w shape possible window.
-              record {
-                t = t;
-                place = place;
-                low = inside;
-                hit = hit_as true seen w.log window steady even stays;
-                read = inr (
-                  seen.payload,
-                  (
-                    record { newer = stamped ∷ (value_box ∷ (kind_box ∷ (value_load ∷ []))); rest = live_load ∷ []; is = λ d. stamped ∷ (value_box ∷ (kind_box ∷ (value_load ∷ (entry 4 (four d) ∷ (live_load ∷ []))))) },
-                    record { newer = stamped ∷ (value_box ∷ (kind_box ∷ [])); rest = kind_load ∷ (live_load ∷ []); is = refl },
-                  ),
-                  record { newer = stamped ∷ (value_box ∷ []); rest = value_load ∷ (kind_load ∷ (live_load ∷ [])); is = refl },
-                  record { newer = stamped ∷ []; rest = kind_box ∷ (value_load ∷ (kind_load ∷ (live_load ∷ []))); is = refl },
-                );
-              }),
-          record { newer = entry 0 seen.closed ∷ []; rest = value_box ∷ (kind_box ∷ (value_load ∷ (kind_load ∷ (entry 2 seen.key_kind ∷ (entry 0 seen.opened ∷ live))))); is = refl; none = refl },
-        )
-    here_as false seen inside steady even stays sees =
-        let stamped : Act = ReadCounter seen.number in
-        let kind_load : Act = entry 4 seen.found_kind in
-        let value_load : Act = entry 5 seen.payload in
-        let live_load : Act = entry 2 (key_kind key) in
-        let plain = sees.1 refl in (
-          (λ w shape possible window.
-              let hit = hit_as false seen w.log window steady even stays in
-              let kind_among : Among (entry 4 seen.found_kind) hit.mid = record { newer = stamped ∷ (value_load ∷ []); rest = live_load ∷ []; is = refl } in
-              let value_among : Among (entry 5 seen.payload) hit.mid = record { newer = stamped ∷ []; rest = kind_load ∷ (live_load ∷ []); is = refl } in
-              -- a hit's box is one of the bank
-              let ne : seen.found_kind ≢ 4 = λ four.
-              plain.2 four (subst (λ (z : Shape). IsBoxName z seen.payload) shape
-              (hit_box w possible o t place key seen.number (subst (λ (z : Shape). o < container_count z) (sym shape) low) (subst (λ (z : Shape). IsKeyed (kind_in z.starts o)) (sym shape) keyed)
-              (subst (λ (z : Shape). place < rows (kind_in z.starts o) (class_of t)) (sym shape) inside) hit seen.payload (subst (λ (z : ℕ). Among (entry 4 z) hit.mid) four kind_among, value_among))) in
-              record {
-                t = t;
-                place = place;
-                low = inside;
-                hit = hit;
-                read = inl (
-                  (seen.found_kind, ne, kind_among),
-                  subst (λ (z : ℕ). Among (entry 4 z) hit.mid) (sym plain.0) kind_among,
-                  subst (λ (z : ℕ). Among (entry 5 z) hit.mid) (sym plain.1) value_among,
-                );
-              }),
-          record { newer = entry 0 seen.closed ∷ []; rest = value_load ∷ (kind_load ∷ (entry 2 seen.key_kind ∷ (entry 0 seen.opened ∷ live))); is = refl; none = refl },
-        )
-
-    pub closes_here : (seen : SeenEntry) → place < m → seen.closed ≡ seen.opened → seen.opened % 2 ≡ 0 → seen.key_kind ≡ key_kind key → SeesValue k seen.found_kind seen.payload seen.value → ClosesAt k o t key (entry_acts t place seen ++ live) (Here seen.value.kind seen.value.value seen.number)
-    closes_here seen inside steady even stays sees = here_as seen.value.boxed seen inside steady even stays sees
-
--- the loads of an entry are of words alone
-pub seen_inner : (t place : ℕ) (seen : SeenEntry) → Inner (entry_acts t place seen)
-seen_inner t place seen = by seen.value.boxed
-  where
-    by : (b : Bool) → Inner (entry_acts_as b t place seen)
-    by true = tt
-    by false = tt
+  })
 
 module _ (k : Shape) (o t : ℕ) (key : Key) where
   -- the walk ended at a slot never used, which was loaded after the counter

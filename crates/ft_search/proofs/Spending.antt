@@ -11,7 +11,7 @@ use Rattle.ft_model.specs.declared.reply.Reply.{Reply}
 use Rattle.ft_model.specs.declared.script.Kind.{Kind}
 use Rattle.ft_layout.specs.Containers.{class_mask}
 use Rattle.ft_trace.specs.declared.Act.{Act}
-use Rattle.ft_trace.specs.declared.Act.TheVariants.{ReadBlock, ReadRoot, ReadTable, ReadCounter, ReadBox, Version, Answer}
+use Rattle.ft_trace.specs.declared.Act.TheVariants.{Announce, Answer, ReadRoot, ReadTable}
 use Rattle.ft_trace.specs.declared.Shape.{Shape}
 use Rattle.ft_trace.specs.declared.View.{View}
 use Rattle.ft_trace.specs.Acts.{view_after, reads}
@@ -35,42 +35,18 @@ use Rattle.ft_bank.specs.Series.{DidAll, noted_all}
 use Rattle.ft_bank.specs.TableNames.{table_id}
 use Rattle.ft_search.specs.declared.words.TableWords.{TableWords}
 use Rattle.ft_search.specs.declared.looks.Looked.{Looked}
-use Rattle.ft_search.specs.declared.reading.SeenEntry.{SeenEntry}
 use Rattle.ft_search.specs.declared.rounds.Round.{Round}
 use Rattle.ft_search.specs.SearchCosts.{index_reads, indexed, LoadsNoIndex, IsRound, LoadsRounds, WalksOn, MayWalkOn, SpendsSearch, SpendsRound}
-use Rattle.ft_trace.specs.LoggedLookUps.{Inner}
-use Rattle.ft_search.specs.KeyLooks.{AreLooks}
-use Rattle.ft_search.specs.Boxed.{box_acts}
-use Rattle.ft_search.specs.Rounds.{kind_by, entry_acts, entry_acts_as}
+use Rattle.ft_trace.specs.LoggedLookUps.{Online}
+use Rattle.ft_search.specs.Rounds.{kind_by}
 use Rattle.ft_search.specs.TableWords.{CanLoad}
 use Rattle.ft_search.proofs.Bounding.{count_is, index_here, index_other, index_past, index_entry, none_append, may_more}
 use Rattle.ft_search.proofs.WordPlaces.{slots_is, slots_of_class}
-use Rattle.ft_search.proofs.Running.{did_trans, did_log, inner_append, inner_online}
+use Rattle.ft_search.proofs.LookSteps.{online_append}
+use Rattle.ft_search.proofs.Running.{did_trans, did_log}
 use Rattle.ft_search.proofs.IndexWordsStay.{slots_stay}
 
 -- ---- one search on the walk
-
--- the loads of an entry between two of its version
-pub seen_none : (t place : ℕ) (seen : SeenEntry) → LoadsNoIndex (entry_acts t place seen)
-seen_none t place seen u = by seen.value.boxed
-  where
-    by : (boxed : Bool) → indexed u (entry_acts_as boxed t place seen) ≡ []
-    by true =
-        let at = entry_offset (slots (class_of t)) place in
-        let one : List Act = ReadTable t (at 0) seen.opened ∷ [] in
-        let two : List Act = ReadTable t (at 2) seen.key_kind ∷ one in
-        let three : List Act = ReadTable t (at 4) seen.found_kind ∷ two in
-        let four : List Act = ReadTable t (at 5) seen.payload ∷ three in
-        index_entry u t place 0 seen.closed (ReadCounter seen.number ∷ (box_acts true seen.payload seen.value.kind seen.value.value ++ four))
-        ∙ (index_entry u t place 5 seen.payload three ∙ (index_entry u t place 4 seen.found_kind two ∙ (index_entry u t place 2 seen.key_kind one ∙ index_entry u t place 0 seen.opened [])))
-    by false =
-        let at = entry_offset (slots (class_of t)) place in
-        let one : List Act = ReadTable t (at 0) seen.opened ∷ [] in
-        let two : List Act = ReadTable t (at 2) seen.key_kind ∷ one in
-        let three : List Act = ReadTable t (at 4) seen.found_kind ∷ two in
-        let four : List Act = ReadTable t (at 5) seen.payload ∷ three in
-        index_entry u t place 0 seen.closed (ReadCounter seen.number ∷ four)
-        ∙ (index_entry u t place 5 seen.payload three ∙ (index_entry u t place 4 seen.found_kind two ∙ (index_entry u t place 2 seen.key_kind one ∙ index_entry u t place 0 seen.opened [])))
 
 pub versions_none : (t place a b : ℕ) → LoadsNoIndex (ReadTable t (entry_offset (slots (class_of t)) place 0) b ∷ (ReadTable t (entry_offset (slots (class_of t)) place 0) a ∷ []))
 versions_none t place a b u = index_entry u t place 0 b (ReadTable t (entry_offset (slots (class_of t)) place 0) a ∷ []) ∙ index_entry u t place 0 a []
@@ -114,11 +90,11 @@ module _ (v : View) (possible : ∥ IsReachable v ∥₁) (o t : ℕ) (keyed : I
   moved_by mid a part = sym (append_assoc mid (a ∷ []) (part ++ base))
 
   -- a slot that is found never used was not found used before
-  never_used : (slot : ℕ) → slot < slots (class_of t) → (newer mid part : List Act) → v.log ≡ newer ++ ReadTable t slot 0 ∷ (mid ++ (part ++ base)) → Inner mid → Inner part → NeverUsed slot (indexed t part)
-  never_used slot low newer mid [] log inner q = tt
-  never_used slot low newer mid (ReadTable u i f ∷ part) log inner q =
+  never_used : (slot : ℕ) → slot < slots (class_of t) → (newer mid part : List Act) → v.log ≡ newer ++ ReadTable t slot 0 ∷ (mid ++ (part ++ base)) → Online mid → Online part → NeverUsed slot (indexed t part)
+  never_used slot low newer mid [] log on q = tt
+  never_used slot low newer mid (ReadTable u i f ∷ part) log on q =
       let log' = log ∙ ap (λ (z : List Act). newer ++ ReadTable t slot 0 ∷ z) (moved_by mid (ReadTable u i f) part) in
-      let more = never_used slot low newer (mid ++ ReadTable u i f ∷ []) part log' (inner_append mid (ReadTable u i f ∷ []) inner tt) q in
+      let more = never_used slot low newer (mid ++ ReadTable u i f ∷ []) part log' (online_append mid (ReadTable u i f ∷ []) on tt) q in
       counted_or t u i f part (NeverUsed slot) (λ e small. by f e log more) more
     where
       by : (f : ℕ) → u ≡ t → v.log ≡ newer ++ ReadTable t slot 0 ∷ (mid ++ ((ReadTable u i f ∷ part) ++ base)) → NeverUsed slot (indexed t part) → NeverUsed slot (Index i f ∷ indexed t part)
@@ -126,20 +102,16 @@ module _ (v : View) (possible : ∥ IsReachable v ∥₁) (o t : ℕ) (keyed : I
       by (suc x) e log more = (
         λ (same : i ≡ slot).
             let log' : v.log ≡ newer ++ ReadTable t slot 0 ∷ (mid ++ ReadTable t slot (suc x) ∷ (part ++ base)) = log ∙ (λ d. newer ++ ReadTable t slot 0 ∷ (mid ++ ReadTable (e d) (same d) (suc x) ∷ (part ++ base))) in
-            let z : 0 ≡ suc x = slots_stay v possible o t slot 0 x newer mid part rest keyed low log' (inner_online mid inner) (inner_online part q) in
+            let z : 0 ≡ suc x = slots_stay v possible o t slot 0 x newer mid part rest keyed low log' on q in
             absurd (omega (arith, z)),
         more,
       )
-  never_used slot low newer mid (Version p f ∷ part) log inner q =
-      never_used slot low newer (mid ++ Version p f ∷ []) part (log ∙ ap (λ (z : List Act). newer ++ ReadTable t slot 0 ∷ z) (moved_by mid (Version p f) part)) (inner_append mid (Version p f ∷ []) inner tt) q
-  never_used slot low newer mid (ReadCounter f ∷ part) log inner q =
-      never_used slot low newer (mid ++ ReadCounter f ∷ []) part (log ∙ ap (λ (z : List Act). newer ++ ReadTable t slot 0 ∷ z) (moved_by mid (ReadCounter f) part)) (inner_append mid (ReadCounter f ∷ []) inner tt) q
-  never_used slot low newer mid (ReadBox c j f ∷ part) log inner q =
-      never_used slot low newer (mid ++ ReadBox c j f ∷ []) part (log ∙ ap (λ (z : List Act). newer ++ ReadTable t slot 0 ∷ z) (moved_by mid (ReadBox c j f) part)) (inner_append mid (ReadBox c j f ∷ []) inner tt) q
-  never_used slot low newer mid (act ∷ part) log inner q = absurd q
+  never_used slot low newer mid (Announce p f ∷ part) log on q = absurd q
+  never_used slot low newer mid (act ∷ part) log on q =
+      never_used slot low newer (mid ++ act ∷ []) part (log ∙ ap (λ (z : List Act). newer ++ ReadTable t slot 0 ∷ z) (moved_by mid act part)) (online_append mid (act ∷ []) on tt) q
 
   -- index words, once not 0, stay so
-  pub stay_used : (newer part : List Act) → v.log ≡ newer ++ (part ++ base) → Inner part → StaysUsed (indexed t part)
+  pub stay_used : (newer part : List Act) → v.log ≡ newer ++ (part ++ base) → Online part → StaysUsed (indexed t part)
   stay_used newer [] log q = tt
   stay_used newer (ReadTable u i f ∷ part) log q =
       let more = stay_used (newer ++ ReadTable u i f ∷ []) part (log ∙ sym (append_assoc newer (ReadTable u i f ∷ []) (part ++ base))) q in
@@ -148,10 +120,8 @@ module _ (v : View) (possible : ∥ IsReachable v ∥₁) (o t : ℕ) (keyed : I
       by : (f : ℕ) → u ≡ t → i < slots (class_of t) → v.log ≡ newer ++ ((ReadTable u i f ∷ part) ++ base) → StaysUsed (indexed t part) → StaysUsed (Index i f ∷ indexed t part)
       by zero e small log more = (never_used i small newer [] part (log ∙ ap (λ (z : ℕ). newer ++ ReadTable z i 0 ∷ (part ++ base)) e) tt q, more)
       by (suc x) e small log more = more
-  stay_used newer (Version p f ∷ part) log q = stay_used (newer ++ Version p f ∷ []) part (log ∙ sym (append_assoc newer (Version p f ∷ []) (part ++ base))) q
-  stay_used newer (ReadCounter f ∷ part) log q = stay_used (newer ++ ReadCounter f ∷ []) part (log ∙ sym (append_assoc newer (ReadCounter f ∷ []) (part ++ base))) q
-  stay_used newer (ReadBox c j f ∷ part) log q = stay_used (newer ++ ReadBox c j f ∷ []) part (log ∙ sym (append_assoc newer (ReadBox c j f ∷ []) (part ++ base))) q
-  stay_used newer (act ∷ part) log q = absurd q
+  stay_used newer (Announce p f ∷ part) log q = absurd q
+  stay_used newer (act ∷ part) log q = stay_used (newer ++ act ∷ []) part (log ∙ sym (append_assoc newer (act ∷ []) (part ++ base))) q
 
 pub kind_keyed : (way : Way) (kind : Kind) → kind ≡ kind_by way → IsKeyed kind
 kind_keyed way.Dict kind is = subst IsKeyed (sym is) tt
@@ -185,10 +155,10 @@ no_reads t acts none = count_is t acts ∙ ap index_loads none
 
 -- the loads of a walk in the table that the root named
 pub walk_round : (v : View) → ∥ IsReachable v ∥₁ → (o t : ℕ) (way : Way) (hash mask : ℕ) (walk left : List ℕ) (part rest : List Act) → kind_in v.shape.starts o ≡ kind_by way → walk ≡ walk_slots way hash mask → slots (class_of t) ≡ mask + 1
-    → v.log ≡ part ++ ReadRoot o (suc t) ∷ rest → Inner part → WalksOn t walk part left → IsRound way (suc t) part
-walk_round v possible o t way hash mask walk left part rest kind is last log inner on =
+    → v.log ≡ part ++ ReadRoot o (suc t) ∷ rest → Online part → WalksOn t walk part left → IsRound way (suc t) part
+walk_round v possible o t way hash mask walk left part rest kind is last log online on =
     let keyed = kind_keyed way (kind_in v.shape.starts o) kind in
-    let stays = stay_used v possible o t keyed rest [] part log inner in
+    let stays = stay_used v possible o t keyed rest [] part log online in
     let c = slots_of_class (class_of t) in
     let same : mask ≡ class_mask (class_of t) = omega (arith, c, last) in
     let few : index_loads (indexed t part) ≤ most_loads way mask = bounded way hash mask (indexed t part) left (subst (λ (z : List ℕ). Follows z (indexed t part) left) is on.follows) stays on.once in
@@ -220,26 +190,22 @@ at_root way o root named p q r is s = subst (λ (z : ℕ). SpendsRound way o z p
 -- ---- one round after the other
 
 -- what was not found in a root was not found by the last loads
-pub own_reads : (t : ℕ) (acts rest : List Act) → AreLooks acts → reads t (acts ++ rest) ≡ false → reads t acts ≡ false
+pub own_reads : (t : ℕ) (acts rest : List Act) → Online acts → reads t (acts ++ rest) ≡ false → reads t acts ≡ false
 own_reads t [] rest q none = refl
 own_reads t (ReadRoot o f ∷ acts) rest q none = by (f == suc t) none (own_reads t acts rest q)
   where
     by : (b : Bool) → cond b true (reads t (acts ++ rest)) ≡ false → (reads t (acts ++ rest) ≡ false → reads t acts ≡ false) → cond b true (reads t acts) ≡ false
     by true e more = absurd (cc)
     by false e more = more e
-own_reads t (Version o f ∷ acts) rest q none = own_reads t acts rest q none
-own_reads t (ReadBlock o i f ∷ acts) rest q none = own_reads t acts rest q none
-own_reads t (ReadTable u i f ∷ acts) rest q none = own_reads t acts rest q none
-own_reads t (ReadCounter f ∷ acts) rest q none = own_reads t acts rest q none
-own_reads t (ReadBox c j f ∷ acts) rest q none = own_reads t acts rest q none
-own_reads t (act ∷ acts) rest q none = absurd q
+own_reads t (Announce p f ∷ acts) rest q none = absurd q
+own_reads t (act ∷ acts) rest q none = own_reads t acts rest q none
 
 -- ---- a walk over the words of a table that the root named
 
 -- the round is known in two ways: by what it shows, and by what it spends
 pub searched_round : (s0 s1 : TableWords) (way : Way) (hash root : ℕ) (walk left : List ℕ) (part spent rest : List Act) → CanLoad s0 → CanLoad s1 → kind_in (shape_of s0.bank.now).starts s0.o ≡ kind_by way → root ≡ suc (table_id s0.table)
-    → walk ≡ walk_slots way hash s0.mask → (view s0.pass.now).log ≡ ReadRoot s0.o root ∷ rest → Inner part → DidAll part s0.pass.now s1.pass.now → DidAll spent s0.pass.now s1.pass.now → WalksOn (table_id s0.table) walk spent left → IsRound way root part
-searched_round s0 s1 way hash root walk left part spent rest can now kind named is last inner did did_spent on =
+    → walk ≡ walk_slots way hash s0.mask → (view s0.pass.now).log ≡ ReadRoot s0.o root ∷ rest → Online part → DidAll part s0.pass.now s1.pass.now → DidAll spent s0.pass.now s1.pass.now → WalksOn (table_id s0.table) walk spent left → IsRound way root part
+searched_round s0 s1 way hash root walk left part spent rest can now kind named is last online did did_spent on =
     let t = table_id s0.table in
     let k = shape_of s0.bank.now in
     let p = s0.pass.now in
@@ -249,7 +215,7 @@ searched_round s0 s1 way hash root walk left part spent rest can now kind named 
     let kind_here : kind_in (view q).shape.starts s0.o ≡ kind_by way = ap (λ (z : Shape). kind_in z.starts s0.o) shape ∙ kind in
     let log : (view q).log ≡ part ++ ReadRoot s0.o (suc t) ∷ rest = did_log part p q did ∙ (ap (λ (z : List Act). part ++ z) last ∙ ap (λ (z : ℕ). part ++ ReadRoot s0.o z ∷ rest) named) in
     subst (λ (z : ℕ). IsRound way z part) (sym named)
-    (walk_round (view q) q.possible s0.o t way hash s0.mask walk left part rest kind_here is (slots_is k s0.table s0.mask can.table can.mask) log inner (subst (λ (z : List Act). WalksOn t walk z left) same on))
+    (walk_round (view q) q.possible s0.o t way hash s0.mask walk left part rest kind_here is (slots_is k s0.table s0.mask can.table can.mask) log online (subst (λ (z : List Act). WalksOn t walk z left) same on))
 
 -- the entry of the call loads nothing
 pub rounds_answered : (way : Way) (o : ℕ) (v w z : View) (called : Call) (said : Reply) (number : ℕ) → z ≡ view_after (Answer called said number) w → LoadsRounds way o v w → LoadsRounds way o v z

@@ -13,12 +13,14 @@ use Rattle.ft_trace.specs.Addresses.{container_count, class_of, slots}
 use Rattle.ft_trace.specs.Pictures.{entry_offset, walk_of}
 use Rattle.ft_trace.specs.Kinds.{rows, IsKeyed}
 use Rattle.ft_trace.specs.ContainerStates.{kind_in}
-use Rattle.ft_trace.specs.LoggedLookUps.{OtherKind, OtherPayload, Dead, Visit, Beyond, Passed, Inner}
+use Rattle.ft_trace.specs.LoggedLookUps.{OtherKind, OtherPayload, Dead, Visit, Beyond, Passed}
 use Rattle.ft_bank.specs.declared.pass.Pass.{Pass}
 use Rattle.ft_bank.specs.Series.{DidAll}
 use Rattle.ft_search.specs.declared.looks.Looked.{Looked}
+use Rattle.ft_search.specs.LookSteps.{InRound}
 use Rattle.ft_search.specs.Rounds.{Walked, Turns, TurnsAfter}
-use Rattle.ft_search.proofs.Running.{did_trans, inner_append}
+use Rattle.ft_search.proofs.LookSteps.{in_round_then}
+use Rattle.ft_search.proofs.Running.{did_trans}
 
 -- ---- slots that were passed
 
@@ -96,13 +98,13 @@ module _ (k : Shape) (o t : ℕ) (key : Key) where
   }
 
   -- more was loaded, by which that slot was passed
-  pub goes_on : (slot : ℕ) (left : List ℕ) (new part : List Act) (p q : Pass) → Inner new → DidAll new p q → Walked k o t key part (slot ∷ left) → Passed (new ++ part) t m slot key → TurnsAfter k o t key part left None p q
-  goes_on slot left new part p q inner did w passed = (new, inner, did, walked_past slot left (new ++ part) (walked_more (slot ∷ left) new part w) passed)
+  pub goes_on : (slot : ℕ) (left : List ℕ) (new part : List Act) (p q : Pass) → InRound new p q → DidAll new p q → Walked k o t key part (slot ∷ left) → Passed (new ++ part) t m slot key → TurnsAfter k o t key part left None p q
+  goes_on slot left new part p q round did w passed = (new, round, did, walked_past slot left (new ++ part) (walked_more (slot ∷ left) new part w) passed)
 
   -- what was loaded goes on from earlier loads
-  pub turns_on : (a earlier : List Act) (left : List ℕ) (result : Option Looked) (p q r : Pass) → Inner a → DidAll a p q → TurnsAfter k o t key (a ++ earlier) left result q r → TurnsAfter k o t key earlier left result p r
-  turns_on a earlier left result p q r inner did h =
-      (h.0 ++ a, inner_append h.0 a h.1 inner, did_trans h.0 a p q r did h.2, subst (λ (z : List Act). Turns k o t key z left result) (sym (append_assoc h.0 a earlier)) h.3)
+  pub turns_on : (a earlier : List Act) (left : List ℕ) (result : Option Looked) (p q r : Pass) → InRound a p q → DidAll a p q → TurnsAfter k o t key (a ++ earlier) left result q r → TurnsAfter k o t key earlier left result p r
+  turns_on a earlier left result p q r round did h =
+      (h.0 ++ a, in_round_then h.0 a p q r round h.1, did_trans h.0 a p q r did h.2, subst (λ (z : List Act). Turns k o t key z left result) (sym (append_assoc h.0 a earlier)) h.3)
 
 -- ---- the slots by their numbers
 

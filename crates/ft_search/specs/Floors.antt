@@ -1,4 +1,4 @@
--- Loads without the lock by a pass that has the floor: no other pass writes meanwhile, so nothing stops them.
+-- Looks without the lock by a pass that has the floor: no other pass writes meanwhile, so nothing stops them.
 use Rattle.std.specs.Prelude.{◌≡◌, ℕ, ◌<◌, true, false, List, ◌++◌}
 use Rattle.ft_model.specs.declared.data.Key.{Key}
 use Rattle.ft_trace.specs.declared.Act.{Act}
@@ -9,13 +9,14 @@ use Rattle.ft_trace.specs.Kinds.{IsKeyed}
 use Rattle.ft_trace.specs.Traces.{IsReachable}
 use Rattle.ft_trace.specs.ContainerStates.{kind_in}
 use Rattle.ft_search.specs.Lengths.{StopsAtVersion}
-use Rattle.ft_search.specs.KeyLooks.{AreLooks, Stops}
+use Rattle.ft_search.specs.KeyLooks.{Stops}
+use Rattle.ft_search.specs.LookSteps.{AreLookSteps}
 
--- the last actions of a pass that has the floor and writes no container were these loads
+-- the last actions of a pass that has the floor and writes no container were these steps of looks
 pub record LooksWithFloor (w : View) (part : List Act) : Type 0 where
   pub older : List Act
   pub is : w.log ≡ part ++ older
-  pub looks : AreLooks part
+  pub looks : AreLookSteps part
   pub floor : w.has_floor ≡ true
   pub still : (o : ℕ) → is_writing o w.log ≡ false
 
@@ -25,7 +26,7 @@ FloorVersionsStand =
     (w : View) (part : List Act) → IsReachable w → LooksWithFloor w part → (o a b : ℕ) → o < container_count w.shape
     → StopsAtVersion o a b part → ⊥
 
--- nor does an entry of a key
+-- nor does the version of an entry of a key, nor the count of the box that the entry names
 abbrev pub FloorEntriesStand : Type 0
 FloorEntriesStand =
     (w : View) (part : List Act) → IsReachable w → LooksWithFloor w part → (o : ℕ) (key : Key) (a b : ℕ)

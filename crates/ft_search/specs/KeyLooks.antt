@@ -1,16 +1,17 @@
 -- What a look-up of one key without the lock loads, and what its log then shows. (profile)
-use Rattle.std.specs.Prelude.{◌≡◌, ◌≢◌, ◌⊎◌, ℕ, suc, ◌%◌, ◌<◌, false, List, [], ◌∷◌, ◌++◌}
+use Rattle.std.specs.Prelude.{◌≡◌, ◌≢◌, ◌⊎◌, ℕ, suc, ◌%◌, ◌<◌, ◌≤◌, false, List, [], ◌∷◌, ◌++◌}
 use Rattle.ft_model.specs.declared.data.Key.{Key}
 use Rattle.ft_layout.specs.Words.{key_kind, gone_kind, key_payload}
 use Rattle.ft_trace.specs.declared.Act.{Act}
-use Rattle.ft_trace.specs.declared.Act.TheVariants.{ReadBlock, ReadRoot, ReadTable, ReadCounter, ReadBox, Version}
+use Rattle.ft_trace.specs.declared.Act.TheVariants.{Answer, ReadBlock, ReadRoot, ReadTable, ReadCounter, ReadBox, Version}
 use Rattle.ft_trace.specs.declared.Shape.{Shape}
 use Rattle.ft_trace.specs.Addresses.{class_of, slots}
 use Rattle.ft_trace.specs.Pictures.{entry_offset}
 use Rattle.ft_trace.specs.Kinds.{rows}
 use Rattle.ft_trace.specs.ContainerStates.{kind_in}
 use Rattle.ft_trace.specs.LoggedReads.{Among}
-use Rattle.ft_trace.specs.LoggedLookUps.{Hit, Bare}
+use Rattle.ft_trace.specs.Acts.{seen_writes, view_after}
+use Rattle.ft_trace.specs.LoggedLookUps.{Hit, Bare, IsReadAsBox}
 use Rattle.ft_trace.specs.LookReplies.{IsValueRead, IsAbsent}
 use Rattle.ft_search.specs.declared.looks.Looked.{Looked}
 use Rattle.ft_search.specs.declared.looks.Looked.TheVariants as looked
@@ -18,9 +19,9 @@ use Rattle.ft_section.specs.declared.answers.Look.{Look}
 use Rattle.ft_section.specs.declared.answers.Look.TheVariants as look
 use Rattle.ft_model.specs.declared.call.Call.{Call}
 use Rattle.ft_trace.specs.declared.View.{View}
-use Rattle.ft_bank.specs.Answered.{Answered}
+use Rattle.ft_model.specs.declared.reply.Reply.{Reply}
 use Rattle.ft_bank.specs.LastLoads.{IsLastBetween, IsLastLoad}
-use Rattle.ft_bank.specs.Whole.{OnlyLoaded}
+use Rattle.ft_search.specs.LookSteps.{AreLookSteps, IsCountMoved, OnlyLooked}
 
 -- only loads of versions, words of blocks, tables and boxes, and the counter
 abbrev pub AreLooks : List Act → Type 0
@@ -62,6 +63,29 @@ pub record StopsAtEntry (k : Shape) (o t : ℕ) (key : Key) (a b : ℕ) (part : 
   pub kind_read : Among (ReadTable t (entry_offset (slots (class_of t)) place 2) (key_kind key)) rest
       ⊎ Among (ReadTable t (entry_offset (slots (class_of t)) place 2) (gone_kind key)) rest
 
+-- Between two loads of the version of one entry of the table of o that gave the same even number its value was read to name
+-- a box. After that the count of the box moved from a to b when it should be raised, or a and b are both the word of a dead
+-- box, which was found there. Before that the entry was read to be the key's.
+pub record StopsAtBox (k : Shape) (o t : ℕ) (key : Key) (a b : ℕ) (part : List Act) : Type 0 where
+  pub place : ℕ
+  pub low : place < rows (kind_in k.starts o) (class_of t)
+  pub box : ℕ
+  pub version : ℕ
+  pub even : version % 2 ≡ 0
+  pub newer : List Act
+  pub mid : List Act
+  pub rest : List Act
+  pub is : part ≡ newer ++ ReadTable t (entry_offset (slots (class_of t)) place 0) version ∷ (mid
+      ++ ReadTable t (entry_offset (slots (class_of t)) place 0) version ∷ rest)
+  pub names : IsReadAsBox t (entry_offset (slots (class_of t)) place 4) (entry_offset (slots (class_of t)) place 5) box mid
+  pub count : IsCountMoved box a b newer
+  pub payload_read : Among (ReadTable t (entry_offset (slots (class_of t)) place 3) (key_payload key)) rest
+  pub kind_read : Among (ReadTable t (entry_offset (slots (class_of t)) place 2) (key_kind key)) rest
+
+-- the version of the key's own entry stopped the look-up, or the count of the box that it names
+abbrev pub StopsInTable : Shape → ℕ → ℕ → Key → ℕ → ℕ → List Act → Type 0
+StopsInTable k o t key a b part = StopsAtEntry k o t key a b part ⊎ StopsAtBox k o t key a b part
+
 -- Two loads of the version of the container gave a and then b, and a is odd or they differ. Between them its root was
 -- read 0.
 pub record StopsAtContainer (o a b : ℕ) (part : List Act) : Type 0 where
@@ -74,9 +98,14 @@ pub record StopsAtContainer (o a b : ℕ) (part : List Act) : Type 0 where
 
 -- Two loads of one version gave a and then b, and a is odd or they differ: the version of an entry of the key in a
 -- table that the root named, or the container's where the root was read 0.
+abbrev pub StopsByVersion : Shape → ℕ → Key → ℕ → ℕ → List Act → Type 0
+StopsByVersion k o key a b part =
+    ((t : ℕ) × Among (ReadRoot o (suc t)) part × StopsAtEntry k o t key a b part) ⊎ StopsAtContainer o a b part
+
+-- a version stopped the look-up, or the count of the box that the key's entry names in a table that the root named
 abbrev pub Stops : Shape → ℕ → Key → ℕ → ℕ → List Act → Type 0
 Stops k o key a b part =
-    ((t : ℕ) × Among (ReadRoot o (suc t)) part × StopsAtEntry k o t key a b part) ⊎ StopsAtContainer o a b part
+    StopsByVersion k o key a b part ⊎ ((t : ℕ) × Among (ReadRoot o (suc t)) part × StopsAtBox k o t key a b part)
 
 -- The last of these loads read that the root of o names a table; or else the newest load of the counter gave n between
 -- two loads of the container's version that gave the same even number.
@@ -93,20 +122,31 @@ ShowsLooked k o key part log (looked.Absent n) =
     ShowsAbsent k o key n log × IsLastLoad n part × EndsLook o n part
 ShowsLooked k o key part log (looked.Contended a b) = Stops k o key a b part
 
--- The pass loaded words of the bank and did nothing else, and the version of the key's own entry stopped the look-up;
--- or the container's, where its root was read 0.
+-- The pass took only steps of look-ups, and the version of the key's own entry stopped this one, or the count of the box that
+-- the entry names; or the container's version, where its root was read 0.
 pub record IsKeyContended (o : ℕ) (key : Key) (a b : ℕ) (v w : View) : Type 0 where
-  pub loaded : OnlyLoaded v w
+  pub looked : OnlyLooked v w
   pub part : List Act
-  pub looks : AreLooks part
+  pub looks : AreLookSteps part
   pub own : w.log ≡ part ++ v.log
   pub stops : Stops v.shape o key a b part
+
+-- The pass took only steps of look-ups, and then gave this reply to the call, with the number that the counter had when it
+-- loaded it last; it has done nothing else. The number is at least all writes that the pass had seen. (profile)
+pub record AnsweredByLook (called : Call) (said : Reply) (number : ℕ) (v w : View) : Type 0 where
+  pub before : View
+  pub looked : OnlyLooked v before
+  pub part : List Act
+  pub own : before.log ≡ part ++ v.log
+  pub counted : IsLastLoad number part
+  pub answered : w ≡ view_after (Answer called said number) before
+  pub seen : seen_writes v ≤ number
 
 -- What a call answers that looks up a key without the lock. It gave a reply, which is the one that its entry has, at the
 -- counter that it loaded last; after that it read that the root names a table, or else it loaded that counter between
 -- two loads of the container's version that gave the same even number. Or it was contended. It takes no memory.
 abbrev pub IsLookOf : ℕ → Key → Call → View → View → Look → Type 0
 IsLookOf o key called v w (look.Done said stamp) =
-    (x : Answered called said stamp.number v w) × (stamp.wrote ≡ false) × EndsLook o stamp.number x.part
+    (x : AnsweredByLook called said stamp.number v w) × (stamp.wrote ≡ false) × EndsLook o stamp.number x.part
 IsLookOf o key called v w (look.Contended a b) = IsKeyContended o key a b v w
 IsLookOf o key called v w look.NoMemory = ⊥

@@ -1,4 +1,5 @@
 pub mod TableWords
+pub mod LookSteps
 pub mod KeyLooks
 pub mod Rounds
 pub mod Held

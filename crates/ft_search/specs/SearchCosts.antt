@@ -11,10 +11,10 @@ use Rattle.ft_trace.specs.declared.Act.TheVariants.{ReadRoot, ReadTable}
 use Rattle.ft_trace.specs.declared.View.{View}
 use Rattle.ft_trace.specs.Acts.{reads}
 use Rattle.ft_trace.specs.Addresses.{class_of, slots}
-use Rattle.ft_trace.specs.LoggedLookUps.{Inner}
 use Rattle.ft_bank.specs.declared.pass.Pass.{Pass}
 use Rattle.ft_bank.specs.Series.{DidAll}
 use Rattle.ft_search.specs.declared.looks.Looked.{Looked}
+use Rattle.ft_search.specs.LookSteps.{AreRoundSteps}
 use Rattle.ft_search.specs.declared.rounds.Round.{Round}
 use Rattle.ft_search.specs.declared.rounds.Round.TheVariants.{Ended, Moved}
 
@@ -46,7 +46,7 @@ IsRound way root acts = AreFewReads way acts × ((t : ℕ) → root ≢ suc t �
 abbrev pub AreMovedRounds : Way → ℕ → ℕ → ℕ → List Act → Type 0
 AreMovedRounds way o zero root acts = acts ≡ ReadRoot o root ∷ []
 AreMovedRounds way o (suc n) root acts =
-    (before : ℕ) × (round earlier : List Act) × AreMovedRounds way o n before earlier × Inner round
+    (before : ℕ) × (round earlier : List Act) × AreMovedRounds way o n before earlier × AreRoundSteps round
     × IsRound way before round × (root ≢ before) × ((t : ℕ) → root ≡ suc t → reads t (round ++ earlier) ≡ false)
     × (acts ≡ ReadRoot o root ∷ (round ++ earlier))
 

@@ -154,6 +154,7 @@ pub fn raise_named(bank: &Bank, pass: &mut Pass, payload: u64)
     ensures only { OnlyBoxed (view pass.old) (view pass.new) }
     ensures settled { IsSettled (view pass.new).log }
     ensures places { TakesNoPlace (view pass.old) (view pass.new) }
+    ensures values { KeepsValues (view pass.old) (view pass.new) }
     ensures gains { GainsRaised (view pass.old) (view pass.new) }
     ensures references { (b : ℕ) → references_held (shape_of bank.now) b (view pass.new).log ≡
         references_held (shape_of bank.now) b (view pass.old).log + cond (b == payload) 1 0 }

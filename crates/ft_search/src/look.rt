@@ -8,14 +8,16 @@ ghost use Rattle.ft_trace.specs.declared.Act.{Act};
 ghost use Rattle.ft_trace.specs.declared.Act.TheVariants.{ReadRoot};
 ghost use Rattle.ft_trace.specs.Acts.{announces};
 ghost use Rattle.ft_trace.specs.Addresses.{container_count, IsTableName};
+ghost use Rattle.ft_trace.specs.Boxes.{IsSettled};
 ghost use Rattle.ft_trace.specs.ContainerStates.{kind_in};
 ghost use Rattle.ft_bank.specs.Passes.{shape_of, view, IsPassOf};
+ghost use Rattle.ft_bank.specs.SameBoxes.{HoldsFew};
 ghost use Rattle.ft_bank.specs.Series.{DidAll};
 ghost use Rattle.ft_bank.specs.KeyHashes.{IsKeyIn};
 ghost use Rattle.ft_bank.specs.TableNames.{table_id, IsTableIn};
-ghost use Rattle.ft_bank.specs.Whole.{OnlyLoaded};
 ghost use Rattle.ft_search.specs.SearchCosts.{LoadsRounds, SpendsRound};
-ghost use Rattle.ft_search.specs.KeyLooks.{AreLooks, ShowsLooked};
+ghost use Rattle.ft_search.specs.KeyLooks.{ShowsLooked};
+ghost use Rattle.ft_search.specs.LookSteps.{AreLookSteps, OnlyLooked};
 ghost use Rattle.ft_search.specs.Rounds.{kind_by, EndsTable, EndsRound};
 
 use crate::bare::look_bare;
@@ -44,6 +46,8 @@ fn look_in(
     requires way { kind_in (shape_of bank.now).starts o ≡ kind_by way }
     requires hash { hash ≡ hash_of (shape_of bank.now).texts key }
     requires online { 0 < announces (view pass.old).log }
+    requires settled { IsSettled (view pass.old).log }
+    requires few { HoldsFew (view pass.old) }
     requires table { IsTableIn (shape_of bank.now) table }
     requires root { root ≡ suc (table_id table) }
     requires last { (rest : List Act) × ((view pass.old).log ≡ ReadRoot o root ∷ rest) }
@@ -80,6 +84,8 @@ fn look_round(
     requires way { kind_in (shape_of bank.now).starts o ≡ kind_by way }
     requires hash { hash ≡ hash_of (shape_of bank.now).texts key }
     requires online { 0 < announces (view pass.old).log }
+    requires settled { IsSettled (view pass.old).log }
+    requires few { HoldsFew (view pass.old) }
     requires table { (t : ℕ) → root ≡ suc t → IsTableName (shape_of bank.now) t }
     requires last { (rest : List Act) × ((view pass.old).log ≡ ReadRoot o root ∷ rest) }
     ensures pass { IsPassOf bank.now pass.new }
@@ -109,7 +115,10 @@ pub(crate) fn key_fits(key: Key)
 /// Looks for a key in a dict or a set without the lock; the pass is online.
 ///
 /// Writes under other keys and growths never make it contended, unless the root was read 0: then the
-/// version of the container decides, else that of the key's own entry.
+/// version of the container decides, else that of the key's own entry, or the count of the box that it names.
+///
+/// Where the value stands in a box, which is so where its words name one, the box is raised, read and dropped: the pass holds
+/// the references that it held before. (PEP 703, "Optimistically avoiding locking")
 ///
 /// It goes in rounds, one more for each change of the root that it finds. In each round it loads at most as many
 /// index words as one search may under the lock, whoever else writes.
@@ -120,10 +129,12 @@ pub fn look_up(bank: &Bank, pass: &mut Pass, o: u32, way: Way, key: Key) -> Look
     requires way { kind_in (shape_of bank.now).starts o ≡ kind_by way }
     requires key { IsKeyIn (shape_of bank.now) key }
     requires online { 0 < announces (view pass.old).log }
+    requires settled { IsSettled (view pass.old).log }
+    requires few { HoldsFew (view pass.old) }
     ensures pass { IsPassOf bank.now pass.new }
     ensures key { FitsKey key }
-    ensures keeps { OnlyLoaded (view pass.old) (view pass.new) }
-    ensures looked { (part : List Act) × AreLooks part × DidAll part pass.old pass.new
+    ensures keeps { OnlyLooked (view pass.old) (view pass.new) }
+    ensures looked { (part : List Act) × AreLookSteps part × DidAll part pass.old pass.new
         × ShowsLooked (shape_of bank.now) o key part (view pass.new).log result }
     ensures loads { LoadsRounds way o (view pass.old) (view pass.new) }
 {

@@ -18,7 +18,8 @@ pub enum Looked {
     Here(u64, u64, u64),
     /// The key was not there, at this stamp.
     Absent(u64),
-    /// A write may be under way: two loads of one version, the first odd or the two different.
+    /// A write may be under way: two loads of one version, the first odd or the two different; or the count word of a box,
+    /// which moved from the first to the second or, where both are the same, was that of a dead box.
     Contended(u64, u64),
 }
 

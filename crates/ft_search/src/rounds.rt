@@ -12,18 +12,21 @@ ghost use Rattle.ft_trace.specs.declared.Act.{Act};
 ghost use Rattle.ft_trace.specs.declared.Act.TheVariants.{ReadRoot, ReadTable};
 ghost use Rattle.ft_trace.specs.Acts.{announces};
 ghost use Rattle.ft_trace.specs.Addresses.{class_of, container_count};
-ghost use Rattle.ft_trace.specs.LoggedLookUps.{Inner};
+ghost use Rattle.ft_trace.specs.Boxes.{IsSettled};
 ghost use Rattle.ft_trace.specs.Kinds.{rows};
 ghost use Rattle.ft_trace.specs.ContainerStates.{kind_in};
 ghost use Rattle.ft_keys.specs.Ways.{walk_slots};
 ghost use Rattle.ft_bank.specs.Passes.{shape_of, view, IsPassOf};
+ghost use Rattle.ft_bank.specs.SameBoxes.{HoldsFew};
 ghost use Rattle.ft_bank.specs.Series.{DidAll};
 ghost use Rattle.ft_bank.specs.TableNames.{table_id, IsTableIn};
+ghost use Rattle.ft_search.specs.LookSteps.{CanLook, InRound, WasNamed};
 ghost use Rattle.ft_search.specs.TableWords.{CanLoad, SamePlace};
 ghost use Rattle.ft_search.specs.SearchCosts.{LoadsNoIndex, MayWalkOn, SpendsRound, SpendsSearch, WalksOn};
 ghost use Rattle.ft_search.specs.Rounds.{kind_by, same_acts, met_acts, live_acts, ended_in, IsNext, LoadsSlot, Walked, TurnsAfter, ClosesAt, EndsTable};
 
 use crate::looks::Looked;
+use crate::reading::EntryRead;
 use crate::tables::mask_of;
 use crate::words::TableWords;
 use ft_bank::{Bank, Pass, Table};
@@ -66,18 +69,18 @@ enum Loaded {
 /// ends a search.
 #[inline(always)]
 fn load_slot(words: &mut TableWords, slot: u64) -> Loaded
-    requires can { CanLoad words.old }
+    requires can { CanLook words.old }
     requires slot { slot ≤ words.old.mask }
-    ensures can { CanLoad words.new }
+    ensures can { CanLook words.new }
     ensures same { SamePlace words.old words.new }
     ensures loads { LoadsSlot (table_id words.old.table) slot words.old.pass.now words.new.pass.now result }
 {
-    let word = words.index(slot);
+    let word = words.slot_word(slot);
     if word != 0 {
         return Loaded::Used(word);
     }
     let number = words.stamp();
-    let again = words.index(slot);
+    let again = words.slot_word(slot);
     if again != 0 {
         return Loaded::Used(again);
     }
@@ -88,10 +91,10 @@ fn load_slot(words: &mut TableWords, slot: u64) -> Loaded
 /// the entry is no longer the key's.
 #[inline(always)]
 fn look_at(words: &mut TableWords, place: u64, key: Key) -> Option<Looked>
-    requires can { CanLoad words.old }
+    requires can { CanLook words.old }
     requires place { place < dict_room words.old.mask }
     requires low { place < rows (kind_in (shape_of words.old.bank.now).starts words.old.o) (class_of (table_id words.old.table)) }
-    ensures can { CanLoad words.new }
+    ensures can { CanLook words.new }
     ensures same { SamePlace words.old words.new }
     ensures turns { (slot : ℕ) (earlier : List Act) (left : List ℕ) →
         Walked (shape_of words.old.bank.now) words.old.o (table_id words.old.table) key
@@ -101,23 +104,26 @@ fn look_at(words: &mut TableWords, place: u64, key: Key) -> Option<Looked>
         words.old.pass.now words.new.pass.now }
     ensures index { (part : List Act) × DidAll part words.old.pass.now words.new.pass.now × LoadsNoIndex part }
 {
-    let seen = words.read_between(place);
+    let seen = match words.read_between(place) {
+        EntryRead::Whole(whole) => whole,
+        EntryRead::Stopped(first, found) => return Some(Looked::Contended(first, found)),
+    };
     if !seen.stood() {
         return Some(Looked::Contended(seen.opened, seen.closed));
     }
     if seen.key_kind != kind_of(key) {
         return None;
     }
-    Some(Looked::Here(seen.value.kind, seen.value.value, seen.number))
+    Some(Looked::Here(seen.kind, seen.value, seen.number))
 }
 
 /// What follows where a search met a deleted entry of a key: the walk goes on, but for an odd version.
 #[inline(always)]
 fn look_at_deleted(words: &mut TableWords, place: u64) -> Option<Looked>
-    requires can { CanLoad words.old }
+    requires can { CanLook words.old }
     requires place { place < dict_room words.old.mask }
     requires low { place < rows (kind_in (shape_of words.old.bank.now).starts words.old.o) (class_of (table_id words.old.table)) }
-    ensures can { CanLoad words.new }
+    ensures can { CanLook words.new }
     ensures same { SamePlace words.old words.new }
     ensures turns { (key : Key) (slot : ℕ) (earlier : List Act) (left : List ℕ) →
         Walked (shape_of words.old.bank.now) words.old.o (table_id words.old.table) key
@@ -138,10 +144,10 @@ fn look_at_deleted(words: &mut TableWords, place: u64) -> Option<Looked>
 /// What follows where an entry has a key's payload: its kind says whether it is the key's, and whether it is there.
 #[inline(always)]
 fn look_by_kind(words: &mut TableWords, place: u64, key: Key) -> Option<Looked>
-    requires can { CanLoad words.old }
+    requires can { CanLook words.old }
     requires place { place < dict_room words.old.mask }
     requires low { place < rows (kind_in (shape_of words.old.bank.now).starts words.old.o) (class_of (table_id words.old.table)) }
-    ensures can { CanLoad words.new }
+    ensures can { CanLook words.new }
     ensures same { SamePlace words.old words.new }
     ensures turns { (slot : ℕ) (earlier : List Act) (left : List ℕ) →
         Walked (shape_of words.old.bank.now) words.old.o (table_id words.old.table) key
@@ -168,11 +174,11 @@ fn look_by_kind(words: &mut TableWords, place: u64, key: Key) -> Option<Looked>
 /// What follows where a slot's index word is this: `None` where the walk goes on.
 #[inline(always)]
 fn look_by_word(words: &mut TableWords, word: u64, key: Key, entries: u64) -> Option<Looked>
-    requires can { CanLoad words.old }
+    requires can { CanLook words.old }
     requires word { word ≢ 0 }
     requires entries { entries ≡ rows (kind_in (shape_of words.old.bank.now).starts words.old.o) (class_of (table_id words.old.table)) }
     requires room { entries ≤ dict_room words.old.mask }
-    ensures can { CanLoad words.new }
+    ensures can { CanLook words.new }
     ensures same { SamePlace words.old words.new }
     ensures turns { (slot : ℕ) (earlier : List Act) (left : List ℕ) →
         Walked (shape_of words.old.bank.now) words.old.o (table_id words.old.table) key
@@ -195,11 +201,11 @@ fn look_by_word(words: &mut TableWords, word: u64, key: Key, entries: u64) -> Op
 /// What follows where a slot is tried: `None` where the walk goes on.
 #[inline(always)]
 fn look_slot(words: &mut TableWords, slot: u64, key: Key, entries: u64) -> Option<Looked>
-    requires can { CanLoad words.old }
+    requires can { CanLook words.old }
     requires slot { slot ≤ words.old.mask }
     requires entries { entries ≡ rows (kind_in (shape_of words.old.bank.now).starts words.old.o) (class_of (table_id words.old.table)) }
     requires room { entries ≤ dict_room words.old.mask }
-    ensures can { CanLoad words.new }
+    ensures can { CanLook words.new }
     ensures same { SamePlace words.old words.new }
     ensures turns { (earlier : List Act) (left : List ℕ) →
         Walked (shape_of words.old.bank.now) words.old.o (table_id words.old.table) key earlier (slot ∷ left) →
@@ -226,8 +232,8 @@ enum Further {
 /// The slot that is tried next, or the end where every slot was tried.
 #[inline(always)]
 fn next_slot(words: &mut TableWords, walk: &Walk) -> Further
-    requires can { CanLoad words.old }
-    ensures can { CanLoad words.new }
+    requires can { CanLook words.old }
+    ensures can { CanLook words.new }
     ensures same { SamePlace words.old words.new }
     ensures next { IsNext walk.now.mask walk.now.left result }
     ensures turns { (key : Key) (earlier : List Act) →
@@ -249,13 +255,13 @@ fn next_slot(words: &mut TableWords, walk: &Walk) -> Further
 /// Tries the slot that the walk has come to, and goes on after it.
 #[inline(always)]
 fn try_slot(words: &mut TableWords, walk: &mut Walk, slot: u64, key: Key, entries: u64) -> Further
-    requires can { CanLoad words.old }
+    requires can { CanLook words.old }
     requires mask { words.old.mask ≡ walk.old.mask }
     requires front { walk.old.left ≡ slot ∷ drop 1 walk.old.left }
     requires slot { slot ≤ walk.old.mask }
     requires entries { entries ≡ rows (kind_in (shape_of words.old.bank.now).starts words.old.o) (class_of (table_id words.old.table)) }
     requires room { entries ≤ dict_room words.old.mask }
-    ensures can { CanLoad words.new }
+    ensures can { CanLook words.new }
     ensures same { SamePlace words.old words.new }
     ensures mask { walk.new.mask ≡ walk.old.mask }
     ensures fewer { ended_in result ≡ None → length walk.new.left < length walk.old.left }
@@ -279,11 +285,11 @@ fn try_slot(words: &mut TableWords, walk: &mut Walk, slot: u64, key: Key, entrie
 /// Searches on until the look-up ends.
 #[inline(always)]
 fn search_walk(words: &mut TableWords, walk: &mut Walk, key: Key, entries: u64) -> Looked
-    requires can { CanLoad words.old }
+    requires can { CanLook words.old }
     requires mask { words.old.mask ≡ walk.old.mask }
     requires entries { entries ≡ rows (kind_in (shape_of words.old.bank.now).starts words.old.o) (class_of (table_id words.old.table)) }
     requires room { entries ≤ dict_room words.old.mask }
-    ensures can { CanLoad words.new }
+    ensures can { CanLook words.new }
     ensures same { SamePlace words.old words.new }
     ensures turns { (earlier : List Act) →
         Walked (shape_of words.old.bank.now) words.old.o (table_id words.old.table) key earlier walk.old.left →
@@ -316,9 +322,9 @@ fn first_slot(hash: u64, mask: u64) -> u64
 /// Searches on after the first slot of the key's walk.
 #[inline(always)]
 fn search_after(words: &mut TableWords, way: Way, key: Key, hash: u64) -> Looked
-    requires can { CanLoad words.old }
+    requires can { CanLook words.old }
     requires way { kind_in (shape_of words.old.bank.now).starts words.old.o ≡ kind_by way }
-    ensures can { CanLoad words.new }
+    ensures can { CanLook words.new }
     ensures same { SamePlace words.old words.new }
     ensures turns { (earlier : List Act) →
         Walked (shape_of words.old.bank.now) words.old.o (table_id words.old.table) key earlier (drop 1 (walk_slots way hash (class_mask words.old.table.class))) →
@@ -350,6 +356,9 @@ fn search_rest(
     requires container { o < container_count (shape_of bank.now) }
     requires table { IsTableIn (shape_of bank.now) table }
     requires way { kind_in (shape_of bank.now).starts o ≡ kind_by way }
+    requires settled { IsSettled (view pass.old).log }
+    requires few { HoldsFew (view pass.old) }
+    requires named { WasNamed o (table_id table) (view pass.old).log }
     ensures pass { IsPassOf bank.now pass.new }
     ensures turns { (earlier : List Act) →
         Walked (shape_of bank.now) o (table_id table) key earlier (drop 1 (walk_slots way hash (class_mask table.class))) →
@@ -374,12 +383,12 @@ fn search_rest(
 /// Searches a table.
 #[inline(always)]
 fn search(words: &mut TableWords, way: Way, key: Key, hash: u64) -> Looked
-    requires can { CanLoad words.old }
+    requires can { CanLook words.old }
     requires way { kind_in (shape_of words.old.bank.now).starts words.old.o ≡ kind_by way }
     requires hash { hash ≡ hash_of (shape_of words.old.bank.now).texts key }
-    ensures can { CanLoad words.new }
+    ensures can { CanLook words.new }
     ensures same { SamePlace words.old words.new }
-    ensures closes { (part : List Act) × Inner part × DidAll part words.old.pass.now words.new.pass.now
+    ensures closes { (part : List Act) × InRound part words.old.pass.now words.new.pass.now × DidAll part words.old.pass.now words.new.pass.now
         × ClosesAt (shape_of words.old.bank.now) words.old.o (table_id words.old.table) key part result }
     ensures spends { (part : List Act) × (left : List ℕ) × DidAll part words.old.pass.now words.new.pass.now
         × WalksOn (table_id words.old.table) (walk_slots way hash words.old.mask) part left }
@@ -401,7 +410,7 @@ pub(crate) fn search_table(
     hash: u64,
     root: u64,
 ) -> Round
-    requires can { CanLoad words.old }
+    requires can { CanLook words.old }
     requires way { kind_in (shape_of words.old.bank.now).starts words.old.o ≡ kind_by way }
     requires hash { hash ≡ hash_of (shape_of words.old.bank.now).texts key }
     requires root { root ≡ suc (table_id words.old.table) }

@@ -82,7 +82,7 @@ abbrev pub named : ℕ → ℕ → Taking → Taking
 named lower upper own =
     record { lower = lower; upper = upper; took_lower = own.took_lower; took_upper = own.took_upper }
 
-named_same : (lower upper : ℕ) (own : Taking) → IsOwnFor lower upper own → (o : ℕ) → taken_in o (named lower upper own) ≡ taken_in o own
+pub named_same : (lower upper : ℕ) (own : Taking) → IsOwnFor lower upper own → (o : ℕ) → taken_in o (named lower upper own) ≡ taken_in o own
 named_same lower upper own is o =
     ⊎_elim (λ (e : own ≡ nothing_taken). ap (λ (t : Taking). taken_in o (named lower upper t)) e ∙ sym (ap (taken_in o) e))
     (λ (e : (own.lower ≡ lower) × (own.upper ≡ upper) × (own.took_upper ≡ false)).

@@ -63,7 +63,8 @@ pub enum Step {
 pub enum Look {
     /// The call was made: its reply, and its stamp.
     Done(Reply, Stamp),
-    /// Two loads of one version gave these; the first is odd, or they differ.
+    /// Two loads of one version gave these; the first is odd, or they differ. Or the count of a box moved from the first to
+    /// the second when it should be raised; or both are the word of a dead box, 3.
     Contended(u64, u64),
     /// Out of memory.
     NoMemory,

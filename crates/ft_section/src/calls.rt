@@ -40,9 +40,10 @@ fn more_marks(mark: Option<Owner>) -> u32
     }
 }
 
-/// The call in flight has found another pass with a lock that it needs: all sections let their locks go.
-/// The first pass that it found is its mark, which each section counts.
-pub(crate) fn wait(bank: &Bank, pass: &mut Pass, owner: Owner)
+/// The same as [`wait`], where a section is open. Its room for the sections is its own, so that a call outside of sections
+/// doesn't pay for it.
+#[inline(never)]
+fn suspend_all(bank: &Bank, pass: &mut Pass, owner: Owner)
     requires inside { IsInCall bank.now pass.old }
     requires marked { (q : ℕ) → (stack_of pass.old).mark ≡ Some q → All HasMarks (stack_of pass.old).sections }
     ensures inside { IsInCall bank.now pass.new }
@@ -58,6 +59,26 @@ pub(crate) fn wait(bank: &Bank, pass: &mut Pass, owner: Owner)
     pass.put_sections(after);
     pass.put_mark(Some(first_owner(mark, owner)));
     let_all_go(bank, pass, before.as_slice());
+}
+
+/// The call in flight has found another pass with a lock that it needs: all sections let their locks go.
+/// The first pass that it found is its mark, which each section counts.
+pub(crate) fn wait(bank: &Bank, pass: &mut Pass, owner: Owner)
+    requires inside { IsInCall bank.now pass.old }
+    requires marked { (q : ℕ) → (stack_of pass.old).mark ≡ Some q → All HasMarks (stack_of pass.old).sections }
+    ensures inside { IsInCall bank.now pass.new }
+    ensures locked { OnlyLocked (view pass.old) (view pass.new) }
+    ensures owners { SameOwners (view pass.old) (view pass.new) }
+    ensures stack { stack_of pass.new ≡ waiting (stack_of pass.old) owner }
+    ensures suspended { AreSuspended (stack_of pass.new).sections }
+{
+    let depth = pass.sections().depth();
+    if depth == 0 {
+        let mark = pass.mark();
+        pass.put_mark(Some(first_owner(mark, owner)));
+        return;
+    }
+    suspend_all(bank, pass, owner);
 }
 
 /// Takes the locks of a call's containers, the lower one first, but for those that the pass has. Where a step

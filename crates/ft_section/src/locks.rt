@@ -103,34 +103,50 @@ fn noting_upper(own: Taking, now: bool) -> Taking
     }
 }
 
-/// Takes the lock of the lower container of the call in flight, unless the pass has it; or answers the
-/// container and the pass that has it.
+/// Takes the lock of the lower one of the two containers of the call in flight, unless the pass has it, and notes both
+/// containers as the call's; or answers the lower one and the pass that has it. The call has itself at most that lock
+/// before, and where another pass has it, none.
 #[inline(always)]
-fn take_lower(bank: &Bank, pass: &mut Pass) -> Result<(), (Object, Owner)>
+fn take_lower(
+    bank: &Bank,
+    pass: &mut Pass,
+    lower: Object,
+    upper: Object,
+) -> Result<(), (Object, Owner)>
     requires inside { IsInCall bank.now pass.old }
-    requires container { (stack_of pass.old).own.lower < container_count (shape_of bank.now) }
+    requires container { lower < container_count (shape_of bank.now) }
+    requires own { IsOwnFor lower upper (stack_of pass.old).own }
     ensures inside { IsInCall bank.now pass.new }
     ensures locked { OnlyLocked (view pass.old) (view pass.new) }
     ensures keeps { KeepsLocks (view pass.old) (view pass.new) }
-    ensures stack { (took : Bool) × (stack_of pass.new ≡ with_own (stack_of pass.old) (record (stack_of pass.old).own { took_lower = took })) }
+    ensures stack { (took : Bool) × (stack_of pass.new ≡ with_own (stack_of pass.old)
+        (record { lower = lower; upper = upper; took_lower = took; took_upper = (stack_of pass.old).own.took_upper })) }
     ensures noted { OnOk result ((r : ℕ) → taken_in r (stack_of pass.new).own ≡ taken_in r (stack_of pass.old).own
-        + (if has_lock (stack_of pass.old).own.lower (view pass.old).log then 0 else at_one (stack_of pass.old).own.lower r)) }
-    ensures has { OnOk result (has_lock (stack_of pass.old).own.lower (view pass.new).log ≡ true) }
-    ensures none { OnErr result (stack_of pass.new ≡ stack_of pass.old) }
-    ensures lacked { OnErr result (has_lock (stack_of pass.old).own.lower (view pass.old).log ≡ false) }
-    ensures only { LocksOnly (λ o. o ≡ (stack_of pass.old).own.lower) (view pass.old) (view pass.new) }
-    ensures found { IfErr result (λ e. (e.0 ≡ (stack_of pass.old).own.lower) × FoundOwner e.0 e.1 (view pass.old) (view pass.new)) }
+        + (if has_lock lower (view pass.old).log then 0 else at_one lower r)) }
+    ensures has { OnOk result (has_lock lower (view pass.new).log ≡ true) }
+    ensures none { OnErr result ((r : ℕ) → taken_in r (stack_of pass.new).own ≡ taken_in r (stack_of pass.old).own) }
+    ensures lacked { OnErr result (has_lock lower (view pass.old).log ≡ false) }
+    ensures only { LocksOnly (λ o. o ≡ lower) (view pass.old) (view pass.new) }
+    ensures found { IfErr result (λ e. (e.0 ≡ lower) × FoundOwner e.0 e.1 (view pass.old) (view pass.new)) }
     ensures known { (view pass.old).has_floor ≡ true → first_found result ≡
-        owner_or (stack_of pass.old).own.lower (owner_of (stack_of pass.old).own.lower (view pass.old)) None }
+        owner_or lower (owner_of lower (view pass.old)) None }
     ensures finds { OnOk result (FindsSame (view pass.old) (view pass.new)) }
 {
-    let own = pass.own();
-    match take_one(bank, pass, own.lower) {
+    let before = pass.own();
+    let own = Taking {
+        lower,
+        upper,
+        ..before
+    };
+    match take_one(bank, pass, lower) {
         Ok(now) => {
             pass.put_own(noting_lower(own, now));
             Ok(())
         }
-        Err(owner) => Err((own.lower, owner)),
+        Err(owner) => {
+            pass.put_own(own);
+            Err((lower, owner))
+        }
     }
 }
 
@@ -191,12 +207,9 @@ pub(crate) fn take_both(
     ensures known { (view pass.old).has_floor ≡ true → first_found result ≡ first_owned lower upper (view pass.old) }
     ensures finds { OnOk result (FindsSame (view pass.old) (view pass.new)) }
 {
-    let own = pass.own();
-    pass.put_own(Taking {
-        lower,
-        upper,
-        ..own
-    });
-    take_lower(bank, pass)?;
+    take_lower(bank, pass, lower, upper)?;
+    if lower == upper {
+        return Ok(());
+    }
     take_upper(bank, pass)
 }

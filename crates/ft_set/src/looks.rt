@@ -6,10 +6,12 @@ ghost use Rattle.ft_model.specs.declared.call.SetCall.TheVariants as set;
 ghost use Rattle.ft_model.specs.declared.script.Kind.TheVariants as kind;
 ghost use Rattle.ft_trace.specs.Acts.{announces};
 ghost use Rattle.ft_trace.specs.Addresses.{container_count};
+ghost use Rattle.ft_trace.specs.Boxes.{IsSettled};
 ghost use Rattle.ft_trace.specs.ContainerStates.{kind_in};
 ghost use Rattle.ft_bank.specs.KeyHashes.{IsKeyIn};
 ghost use Rattle.ft_bank.specs.Passes.{shape_of, view, IsPassOf};
 ghost use Rattle.ft_bank.specs.PassSections.{stack_of};
+ghost use Rattle.ft_bank.specs.SameBoxes.{HoldsFew};
 ghost use Rattle.ft_keys.specs.declared.walk.Way.TheVariants as way;
 ghost use Rattle.ft_search.specs.SearchCosts.{LoadsRounds};
 ghost use Rattle.ft_search.specs.KeyLooks.{IsLookOf};
@@ -35,6 +37,8 @@ pub fn look_has(bank: &Bank, pass: &mut Pass, s: Object, key: Key) -> Look
     requires key { IsKeyIn (shape_of bank.now) key }
     requires online { 0 < announces (view pass.old).log }
     requires left { 0 < (view pass.old).left }
+    requires settled { IsSettled (view pass.old).log }
+    requires few { HoldsFew (view pass.old) }
     ensures pass { IsPassOf bank.now pass.new }
     ensures sections { stack_of pass.new ≡ stack_of pass.old }
     ensures looked { IsLookOf s key (call.Set s (set.Has key)) (view pass.old) (view pass.new) result }

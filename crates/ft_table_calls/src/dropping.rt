@@ -81,6 +81,7 @@ pub fn drop_values(bank: &Bank, pass: &mut Pass, o: Object, table: Table, places
     ensures stack { stack_of pass.new ≡ stack_of pass.old }
     ensures only { OnlyBoxed (view pass.old) (view pass.new) }
     ensures made { StaysSettled (view pass.old) (view pass.new) }
+    ensures values { KeepsValues (view pass.old) (view pass.new) }
     ensures references { (b : ℕ) → references_held (shape_of bank.now) b (view pass.new).log
         + named_in_root b (kind_in (shape_of bank.now).starts o) (suc (table_id table)) (in_hand (table_id table) (view pass.old))
         ≡ references_held (shape_of bank.now) b (view pass.old).log }

@@ -22,7 +22,7 @@ use Rattle.ft_bank.specs.Series.{DidAll}
 use Rattle.ft_search.specs.Boxed.{box_acts, IsKnownBox, SeesKnown, SeesValue}
 use Rattle.ft_search.specs.KeyLooks.{AreLooks}
 use Rattle.ft_search.specs.declared.boxed.SeenValue.{SeenValue}
-use Rattle.ft_search.proofs.Rounding.{looks_append, looks_did}
+use Rattle.ft_search.proofs.LoadedLooks.{looks_append, looks_did}
 use Rattle.ft_search.proofs.Running.{did_none, did_trans}
 use Rattle.ft_reads.specs.Reads.{AgreesRead, HeldAgrees, NamesBoxes, Reads}
 use Rattle.ft_reads.proofs.Agreeing.{held_before, read_append, read_newer, read_older}

@@ -9,6 +9,8 @@ use Rattle.ft_bank.proofs.KnownAfterWrites.{boxed_then, loaded_boxed}
 use Rattle.ft_boxes.proofs.Heaps.{loaded_then, then_last}
 use Rattle.ft_boxes.proofs.Steps.{keeps_by, leaves_by, leaves_same, leaves_then, settled_by}
 use Rattle.ft_boxes.proofs.TakenBoxes.{gone_settled}
+use Rattle.ft_trace.specs.declared.Act.TheVariants.{ReadBox}
+use Rattle.ft_boxes.proofs.CountSteps.{took_one, took_then}
 use Rattle.ft_boxes.proofs.releasing.drop_own.Goals as goal
 
 pub returns-then-count-eq1-clause-only : goal.returns-then-count-eq1-clause-only
@@ -53,3 +55,19 @@ returns-else-count-eq1-clause-gone c =
 pub returns-then-count-eq1-clause-gone : goal.returns-then-count-eq1-clause-gone
 returns-then-count-eq1-clause-gone c =
     gone_settled c.args.b (view c.args.pass.now) (view c.merge.new.pass) c.merge.new.pass.possible c.merge.ensures.settled (returns-then-count-eq1-clause-only c)
+
+pub returns-then-count-eq1-clause-steps : goal.returns-then-count-eq1-clause-steps
+returns-then-count-eq1-clause-steps c =
+    let b = box_id c.args.b in
+    let x = c.read_box-count.new.pass in
+    let y = c.drop_local.new.pass in
+    took_then c.args.pass.now y c.merge.new.pass
+    (took_then c.args.pass.now x y (took_one (ReadBox b 3 c.read_box-count.result) c.args.pass.now x tt c.read_box-count.ensures.did) (took_one (DropLocal b (c.read_box-count.result - 1)) x y tt c.drop_local.ensures.did))
+    c.merge.ensures.steps
+
+pub returns-else-count-eq1-clause-steps : goal.returns-else-count-eq1-clause-steps
+returns-else-count-eq1-clause-steps c =
+    let b = box_id c.args.b in
+    let x = c.read_box-count.new.pass in
+    let y = c.drop_local.new.pass in
+    took_then c.args.pass.now x y (took_one (ReadBox b 3 c.read_box-count.result) c.args.pass.now x tt c.read_box-count.ensures.did) (took_one (DropLocal b (c.read_box-count.result - 1)) x y tt c.drop_local.ensures.did)

@@ -8,6 +8,8 @@ use Rattle.ft_bank.specs.BoxSteps.{box_id}
 use Rattle.ft_bank.specs.Passes.{view}
 use Rattle.ft_boxes.proofs.Steps.{leaves_by, settled_by}
 use Rattle.ft_boxes.proofs.TakenBoxes.{gone_settled}
+use Rattle.ft_trace.specs.declared.Act.TheVariants.{GivePlace}
+use Rattle.ft_boxes.proofs.CountSteps.{took_one, took_then}
 use Rattle.ft_boxes.proofs.releasing.drop_shared.Goals as goal
 
 pub returns-else-found-eq-LAST-clause-gone : goal.returns-else-found-eq-LAST-clause-gone
@@ -27,3 +29,12 @@ returns-else-found-eq-LAST-clause-gone c =
     settled_by c.args.b v w (leaves_by c.args.b v w (DropShared n f) tt refl did) c.requires.settled (λ e. c.requires.settled.unmade n (sym state ∙ e)) (λ own. absurd (c.requires.shared (sym state ∙ own)))
     (places ∙ c.requires.settled.given n) in
     gone_settled c.args.b v w c.drop_shared-found.new.pass.possible settled c.drop_shared-found.ensures.only
+
+pub returns-then-found-eq-LAST-clause-steps : goal.returns-then-found-eq-LAST-clause-steps
+returns-then-found-eq-LAST-clause-steps c =
+    let b = box_id c.args.b in
+    let x = c.drop_shared-found.new.pass in
+    took_then c.args.pass.now x c.give_place.new.pass (took_one (DropShared b c.drop_shared-found.result) c.args.pass.now x tt c.drop_shared-found.ensures.did) (took_one (GivePlace b) x c.give_place.new.pass tt c.give_place.ensures.did)
+
+pub returns-else-found-eq-LAST-clause-steps : goal.returns-else-found-eq-LAST-clause-steps
+returns-else-found-eq-LAST-clause-steps c = took_one (DropShared (box_id c.args.b) c.drop_shared-found.result) c.args.pass.now c.drop_shared-found.new.pass tt c.drop_shared-found.ensures.did

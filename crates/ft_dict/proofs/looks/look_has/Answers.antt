@@ -5,7 +5,7 @@ use Rattle.ft_model.specs.declared.call.Call.TheVariants as call
 use Rattle.ft_model.specs.declared.call.DictCall.TheVariants as dict
 use Rattle.ft_model.specs.declared.reply.Reply.TheVariants as reply
 use Rattle.ft_search.specs.KeyLooks.{EndsLook, IsLookOf}
-use Rattle.ft_search.proofs.Asking.{answered_after}
+use Rattle.ft_search.proofs.Asking.{looked_after}
 use Rattle.ft_keys.specs.declared.walk.Way.TheVariants as way
 use Rattle.ft_search.proofs.Spending.{rounds_answered}
 use Rattle.ft_dict.proofs.looks.look_has.Goals as goal
@@ -22,7 +22,7 @@ returns-in-Found-clause-looked c =
     let z = view c.answer_look.new.pass in
     let called = call.Dict c.args.d (dict.Has c.args.key) in
     let f = c.in-Found.ensures.found in
-    let a = answered_after (EndsLook c.args.d c.in-Found.number) v w z called (reply.Truth c.is_some.result) c.in-Found.number f.2.0 f.0 f.2.1 f.2.2 c.answer_look.ensures.did.1 c.args.pass.now.settled c.answer_look.new.pass.possible f.2.3 in
+    let a = looked_after (EndsLook c.args.d c.in-Found.number) v w z called (reply.Truth c.is_some.result) c.in-Found.number f.2.0 f.0 f.2.1 f.2.2 c.answer_look.ensures.did.1 c.args.pass.now.settled c.answer_look.new.pass.possible f.2.3 in
     subst (λ r. IsLookOf c.args.d c.args.key called v z r) (sym c.answer_look.ensures.done)
     (a.0, refl, a.1)
 

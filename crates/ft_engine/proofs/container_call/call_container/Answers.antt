@@ -1,15 +1,27 @@
-use Rattle.std.proofs.Common.{[], sym}
+use Rattle.std.proofs.Common.{[], refl, sym}
 use Rattle.ft_bank.specs.Passes.{shape_of, view}
+use Rattle.ft_search.proofs.Puts.{few_done}
 use Rattle.ft_engine.proofs.Callers.{hands_stay}
 use Rattle.ft_engine.proofs.LookFirst.{contended_looked, none_looked, settled_looked}
 use Rattle.ft_engine.proofs.LooksBefore.{looked_left, looked_making, looked_may, looked_then, looked_tried, may_pass, named_objects, plain_call}
-use Rattle.ft_engine.proofs.Uncontended.{try_stands}
+use Rattle.ft_engine.proofs.Uncontended.{still_may, try_stands}
 use Rattle.ft_engine.proofs.container_call.call_container.Goals as goal
 
 pub look_call-look-requires-clause-pass : goal.look_call-look-requires-clause-pass
 look_call-look-requires-clause-pass c =
     let n = named_objects c.args.call.now c.requires.containers in
     may_pass c.args.bank.now c.args.pass.now n.0 (c.requires.may n.0 (n.1 []))
+
+pub look_call-look-requires-clause-settled : goal.look_call-look-requires-clause-settled
+look_call-look-requires-clause-settled c =
+    let n = named_objects c.args.call.now c.requires.containers in
+    (still_may c.args.bank.now c.args.pass.now n.0 (c.requires.may n.0 (n.1 []))).boxes.settled
+
+pub look_call-look-requires-clause-few : goal.look_call-look-requires-clause-few
+look_call-look-requires-clause-few c =
+    let v = view c.args.pass.now in
+    let n = named_objects c.args.call.now c.requires.containers in
+    few_done v.shape v refl (still_may c.args.bank.now c.args.pass.now n.0 (c.requires.may n.0 (n.1 []))).boxes
 
 pub settle-requires : goal.settle-requires
 settle-requires c =

@@ -23,12 +23,12 @@ returns-in-Has-clause-looked c =
 
 pub returns-in-Len-clause-looked : goal.returns-in-Len-clause-looked
 returns-in-Len-clause-looked c =
-    dict_looked c.args.d c.args.call.now dict.Len (view c.args.pass.now) (view c.look_len.new.pass) c.look_len.result c.in-Len.is (glance_looked c.args.d (call.Dict c.args.d dict.Len) (view c.args.pass.now) (view c.look_len.new.pass) c.look_len.result (λ a b part s. s) c.look_len.ensures.looked)
+    dict_looked c.args.d c.args.call.now dict.Len (view c.args.pass.now) (view c.look_len.new.pass) c.look_len.result c.in-Len.is (glance_looked c.args.d (call.Dict c.args.d dict.Len) (view c.args.pass.now) (view c.look_len.new.pass) c.look_len.result c.args.pass.now.possible (λ a b part s. s) c.look_len.ensures.looked)
 
 pub returns-in-Items-clause-looked : goal.returns-in-Items-clause-looked
 returns-in-Items-clause-looked c =
-    dict_looked c.args.d c.args.call.now dict.Items (view c.args.pass.now) (view c.look_items.new.pass) c.look_items.result c.in-Items.is (copy_looked (shape_of c.args.bank.now) c.args.d (IsOfDict (shape_of c.args.bank.now) (λ dict. 0 < length dict.pairs)) (call.Dict c.args.d dict.Items) (view c.args.pass.now) (view c.look_items.new.pass) c.look_items.result refl (λ a b part s. s) c.look_items.ensures.looked)
+    dict_looked c.args.d c.args.call.now dict.Items (view c.args.pass.now) (view c.look_items.new.pass) c.look_items.result c.in-Items.is (copy_looked (shape_of c.args.bank.now) c.args.d (IsOfDict (shape_of c.args.bank.now) (λ dict. 0 < length dict.pairs)) (call.Dict c.args.d dict.Items) (view c.args.pass.now) (view c.look_items.new.pass) c.look_items.result c.args.pass.now.possible refl (λ a b part s. s) c.look_items.ensures.looked)
 
 pub returns-in-Eq-clause-looked : goal.returns-in-Eq-clause-looked
 returns-in-Eq-clause-looked c =
-    dict_looked c.args.d c.args.call.now (dict.Eq c.in-Eq.other) (view c.args.pass.now) (view c.look_eq.new.pass) c.look_eq.result c.in-Eq.is (both_looked c.args.d c.in-Eq.other (call.Dict c.args.d (dict.Eq c.in-Eq.other)) (view c.args.pass.now) (view c.look_eq.new.pass) c.look_eq.result (λ a b part s. s) c.look_eq.ensures.looked)
+    dict_looked c.args.d c.args.call.now (dict.Eq c.in-Eq.other) (view c.args.pass.now) (view c.look_eq.new.pass) c.look_eq.result c.in-Eq.is (both_looked c.args.d c.in-Eq.other (call.Dict c.args.d (dict.Eq c.in-Eq.other)) (view c.args.pass.now) (view c.look_eq.new.pass) c.look_eq.result c.args.pass.now.possible (λ a b part s. s) c.look_eq.ensures.looked)

@@ -12,4 +12,4 @@ pub returns-in-Get-clause-looked : goal.returns-in-Get-clause-looked
 returns-in-Get-clause-looked c =
     let fits_index : SFits w64 c.in-Get.index = search rules in
     let same_index = to_z-of_z {w = w64} {z = c.in-Get.index} fits_index in
-    list_looked c.args.l c.args.call.now (list.Get c.in-Get.index) (view c.args.pass.now) (view c.look_get.new.pass) c.look_get.result c.in-Get.is (get_looked c.args.l c.in-Get.index (view c.args.pass.now) (view c.look_get.new.pass) c.look_get.result (subst (λ (i : ℤ). IsLookGetOf c.args.l i (view c.args.pass.now) (view c.look_get.new.pass) c.look_get.result) same_index c.look_get.ensures.looked))
+    list_looked c.args.l c.args.call.now (list.Get c.in-Get.index) (view c.args.pass.now) (view c.look_get.new.pass) c.look_get.result c.in-Get.is (get_looked c.args.l c.in-Get.index (view c.args.pass.now) (view c.look_get.new.pass) c.look_get.result c.args.pass.now.possible (subst (λ (i : ℤ). IsLookGetOf c.args.l i (view c.args.pass.now) (view c.look_get.new.pass) c.look_get.result) same_index c.look_get.ensures.looked))

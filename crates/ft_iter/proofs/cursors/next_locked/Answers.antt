@@ -10,7 +10,7 @@ use Rattle.ft_trace.specs.Holds.{known_state}
 use Rattle.ft_bank.specs.Answered.{AnsweredCursor}
 use Rattle.ft_bank.specs.Passes.{view}
 use Rattle.ft_bank.specs.Whole.{OnlyLoaded}
-use Rattle.ft_search.proofs.Rounding.{looks_did}
+use Rattle.ft_search.proofs.LoadedLooks.{looks_did}
 use Rattle.ft_search.proofs.Running.{did_log}
 use Rattle.ft_iter.specs.CursorCalls.{step_in, IsOver}
 use Rattle.ft_iter.proofs.Moves.{next-moves, step-over}

@@ -16,7 +16,7 @@ use Rattle.ft_bank.specs.Passes.{shape_of, view}
 use Rattle.ft_bank.specs.TableNames.{table_id}
 use Rattle.ft_search.proofs.Changing.{kind_is}
 use Rattle.ft_search.proofs.Running.{did_trans}
-use Rattle.ft_search.proofs.Rounding.{looks_append, looks_did}
+use Rattle.ft_search.proofs.LoadedLooks.{looks_append, looks_did}
 use Rattle.ft_iter.specs.Seeking.{GivesPair}
 use Rattle.ft_iter.proofs.NextContents.{keyed-known, fill-low, fill-rows, next-held, bare-next}
 use Rattle.ft_iter.proofs.held.next_of.Goals as goal

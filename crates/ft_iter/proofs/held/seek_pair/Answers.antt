@@ -1,7 +1,7 @@
 use Rattle.std.proofs.Common.{◌++◌}
 use Rattle.ft_bank.specs.Passes.{shape_of, view}
 use Rattle.ft_search.proofs.Running.{did_trans, same_trans}
-use Rattle.ft_search.proofs.Rounding.{looks_append, looks_did}
+use Rattle.ft_search.proofs.LoadedLooks.{looks_append, looks_did}
 use Rattle.ft_iter.proofs.BoxedPairs.{none-after, known-after, given-after}
 use Rattle.ft_iter.proofs.held.seek_pair.Goals as goal
 

@@ -9,7 +9,7 @@ use Rattle.ft_trace.specs.Holds.{held_unboxed, known_state}
 use Rattle.ft_bank.specs.Passes.{shape_of, view}
 use Rattle.ft_search.proofs.Lengths.{count_is}
 use Rattle.ft_search.proofs.Running.{did_trans}
-use Rattle.ft_search.proofs.Rounding.{looks_append}
+use Rattle.ft_search.proofs.LoadedLooks.{looks_append}
 use Rattle.ft_iter.specs.Following.{IsNextOf}
 use Rattle.ft_iter.proofs.NextReplies.{dict-gives}
 use Rattle.ft_iter.proofs.walks.walk_dict.Goals as goal

@@ -10,7 +10,7 @@ use Rattle.ft_model.specs.declared.call.ListCall.TheVariants as list
 use Rattle.ft_bank.specs.Passes.{view}
 use Rattle.ft_bank.specs.Reads.{IsShown}
 use Rattle.ft_search.specs.KeyLooks.{EndsLook}
-use Rattle.ft_search.proofs.Asking.{answered_after}
+use Rattle.ft_search.proofs.Asking.{looked_after}
 use Rattle.ft_list.specs.ItemLooks.{IsGetOf}
 use Rattle.ft_list.proofs.gets.look_item.Goals as goal
 
@@ -28,6 +28,6 @@ returns-in-Found-clause-looked c =
     let f = c.in-Found.ensures.found in
     let n = c.in-Found.number in
     let did = subst (λ (i : ℤ). z ≡ view_after (Answer (call.List c.args.l (list.Get i)) c.reply_of.result n) w) (to_z-of_z {w = w64} {z = c.signed.result} (record { sfits = c.signed.type_inv }) ∙ c.signed.ensures) c.answer_look.ensures.did.1 in
-    let a = answered_after (EndsLook c.args.l n) v w z called c.reply_of.result n f.2.0 f.0 f.2.1 f.2.2 did c.args.pass.now.settled c.answer_look.new.pass.possible f.2.3 in
+    let a = looked_after (EndsLook c.args.l n) v w z called c.reply_of.result n f.2.0 f.0 f.2.1 f.2.2 did c.args.pass.now.settled c.answer_look.new.pass.possible f.2.3 in
     subst (λ r. IsGetOf c.args.l c.args.index v z r) (sym c.answer_look.ensures.done)
     (a.0, refl, a.1)

@@ -17,7 +17,7 @@ use Rattle.ft_bank.specs.Whole.{OnlyLoaded}
 use Rattle.ft_bank.proofs.LastLoads.{between_last}
 use Rattle.ft_search.specs.Lengths.{IsGlanceOf}
 use Rattle.ft_search.proofs.Asking.{may_ask, answered_after}
-use Rattle.ft_search.proofs.Rounding.{looks_did}
+use Rattle.ft_search.proofs.LoadedLooks.{looks_did}
 use Rattle.ft_search.proofs.Running.{did_log}
 use Rattle.ft_list.specs.Indexes.{ShowsNamed}
 use Rattle.ft_list.proofs.Indexes.{get_shown}

@@ -4,6 +4,7 @@ use Rattle.ft_model.specs.declared.data.Key.TheVariants as key
 use Rattle.ft_trace.specs.declared.Act.{Act}
 use Rattle.ft_trace.specs.declared.Act.TheVariants.{ReadRoot}
 use Rattle.ft_bank.specs.Passes.{shape_of}
+use Rattle.ft_search.proofs.LookSteps.{looked_by}
 use Rattle.ft_search.proofs.Rounding.{bare_moved, bare_acts, bare_did, bare_stops}
 use Rattle.ft_list.proofs.LookRounds.{bare_past}
 use Rattle.ft_list.proofs.looks.look_bare.Goals as goal
@@ -20,11 +21,14 @@ returns-then-closed-opened-clause-ended c index =
     let o = c.args.o in
     let none : c.read_root-root.result ≡ 0 = omega (arith, c.if-root-ne0.false) in
     let why : (c.seq-opened.result % 2 ≢ 0) ⊎ (c.seq-closed.result ≢ c.seq-opened.result) = elim c.then-closed-opened.branch [ then-closed-opened-via-then-closed-opened w ↦ inr w.if-closed-opened.true | then-closed-opened-via-else-closed-opened+then-opened-ne0 w ↦ inl w.if-opened-ne0.true ] in
-    let old : List Act = ReadRoot o 0 ∷ [] in (
-      bare_acts o c.seq-closed.result c.stamp-number.result c.read_root-root.result c.seq-opened.result,
+    let old : List Act = ReadRoot o 0 ∷ [] in
+    let acts = bare_acts o c.seq-closed.result c.stamp-number.result c.read_root-root.result c.seq-opened.result in
+    let did = bare_did o c.seq-closed.result c.stamp-number.result c.read_root-root.result c.seq-opened.result c.args.pass.now c.seq-opened.new.pass c.read_root-root.new.pass c.stamp-number.new.pass c.seq-closed.new.pass c.seq-opened.ensures c.read_root-root.ensures.did c.stamp-number.ensures.did c.seq-closed.ensures in (
+      acts,
       tt,
-      bare_did o c.seq-closed.result c.stamp-number.result c.read_root-root.result c.seq-opened.result c.args.pass.now c.seq-opened.new.pass c.read_root-root.new.pass c.stamp-number.new.pass c.seq-closed.new.pass c.seq-opened.ensures c.read_root-root.ensures.did c.stamp-number.ensures.did c.seq-closed.ensures,
-      inr (bare_stops o c.seq-closed.result c.stamp-number.result c.read_root-root.result c.seq-opened.result old none why),
+      looked_by acts c.args.pass.now c.seq-closed.new.pass tt did,
+      did,
+      inl (inr (bare_stops o c.seq-closed.result c.stamp-number.result c.read_root-root.result c.seq-opened.result old none why)),
     )
 
 pub returns-clause-ended : goal.returns-clause-ended

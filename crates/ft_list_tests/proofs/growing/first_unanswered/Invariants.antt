@@ -1,5 +1,5 @@
-use Rattle.ft_bank.specs.Passes.{IsPassOf}
+use Rattle.ft_list_tests.specs.TestCalls.{MayLook}
 use Rattle.ft_list_tests.proofs.growing.first_unanswered.Given as goal
 
 abbrev pub invariant-loop-index : goal.invariant-loop-index
-invariant-loop-index l = record { pass : IsPassOf l.bank l.reader }
+invariant-loop-index l = record { pass : MayLook l.bank l.reader }

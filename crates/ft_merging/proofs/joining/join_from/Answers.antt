@@ -27,6 +27,14 @@ use Rattle.ft_merging.proofs.SharedKeys.{shares_from}
 use Rattle.ft_merging.proofs.joining.join_from.Goals as goal
 use Rattle.ft_merging.proofs.joining.join_from.Goals.{After-own_table-old}
 
+pub own_table-old-requires-clause-may : goal.own_table-old-requires-clause-may
+own_table-old-requires-clause-may c =
+    let v = view c.args.pass.now in
+    let u = view c.read_counts-others.new.pass in
+    let w = view c.read_counts-counts.new.pass in
+    let z = view c.count_new-more.new.pass in
+    may_loaded (shape_of c.args.bank.now) c.args.o v z c.requires.pass.1 (loaded_then v w z (loaded_then v u w c.read_counts-others.ensures.only c.read_counts-counts.ensures.only) c.count_new-more.ensures.only) c.requires.may
+
 -- ---- the loads
 
 one : (c : After-own_table-old) → OnlyLoaded (view c.args.pass.now) (view c.read_counts-counts.new.pass)

@@ -2,7 +2,7 @@ use Rattle.std.proofs.Common.{sym, subst}
 use Rattle.ft_trace.specs.Holds.{held_unboxed}
 use Rattle.ft_bank.specs.Passes.{shape_of, view}
 use Rattle.ft_search.specs.declared.spots.Spot.{Spot}
-use Rattle.ft_search.proofs.Rounding.{looks_did}
+use Rattle.ft_search.proofs.LoadedLooks.{looks_did}
 use Rattle.ft_merging.specs.Internal.JoiningSteps.{IsSought}
 use Rattle.ft_merging.proofs.JoinedSearch.{sought}
 use Rattle.ft_merging.proofs.putting.seek_in.Goals as goal

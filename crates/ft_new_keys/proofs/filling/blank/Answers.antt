@@ -36,26 +36,26 @@ loop-at-init c =
       blank = record { long = table_long v.shape (table_id a.table) (mem v.shape v.log); zeros = λ i low. absurd (omega (arith, low)) };
     }
 
-pub put_fresh-requires-clause-pass : goal.put_fresh-requires-clause-pass
-put_fresh-requires-clause-pass c = c.loop-at.invariant.pass
+pub put_fresh_word-requires-clause-pass : goal.put_fresh_word-requires-clause-pass
+put_fresh_word-requires-clause-pass c = c.loop-at.invariant.pass
 
-pub put_fresh-requires-clause-word : goal.put_fresh-requires-clause-word
-put_fresh-requires-clause-word c =
-    let s = sized (goal.at.put_fresh-requires-clause-word c).After-table_size-at-end in
+pub put_fresh_word-requires-clause-word : goal.put_fresh_word-requires-clause-word
+put_fresh_word-requires-clause-word c =
+    let s = sized (goal.at.put_fresh_word-requires-clause-word c).After-table_size-at-end in
     let t = c.loop-at-test.true in
     omega (arith, s, t)
 
-pub put_fresh-requires-clause-fresh : goal.put_fresh-requires-clause-fresh
-put_fresh-requires-clause-fresh c = c.loop-at.invariant.only.work.hands (table_id c.args.table) ∙ c.requires.fresh
+pub put_fresh_word-requires-clause-fresh : goal.put_fresh_word-requires-clause-fresh
+put_fresh_word-requires-clause-fresh c = c.loop-at.invariant.only.work.hands (table_id c.args.table) ∙ c.requires.fresh
 
 pub loop-at-preserved : goal.loop-at-preserved
 loop-at-preserved c =
     let a = c.args in
     let v = view a.pass.now in
     let w = view c.loop-at.pass in
-    let z = view c.put_fresh.new.pass in
+    let z = view c.put_fresh_word.new.pass in
     let i = c.loop-at.invariant in
-    let put = c.put_fresh.ensures in
+    let put = c.put_fresh_word.ensures in
     let class = class_of (table_id a.table) in
     let s = sized (goal.at.loop-at-preserved c).After-table_size-at-end in
     let t = c.loop-at-test.true in

@@ -17,6 +17,9 @@ use Rattle.ft_new_keys.proofs.filling.copy_entries.Goals as goal
 pub mask_of-old_mask-requires : goal.mask_of-old_mask-requires
 mask_of-old_mask-requires c = (c.requires.keyed.table_in c.args.old refl).0
 
+pub cell_of-old_start-requires : goal.cell_of-old_start-requires
+cell_of-old_start-requires c = record { table = c.requires.keyed.table_in c.args.old refl }
+
 pub rebuild_in-requires-clause-can : goal.rebuild_in-requires-clause-can
 rebuild_in-requires-clause-can c =
     let a = c.args in
@@ -30,6 +33,8 @@ rebuild_in-requires-clause-can c =
       old_in = keyed.table_in a.old refl;
       old_root = keyed.root;
       old_mask = c.mask_of-old_mask.ensures;
+      old_start = c.cell_of-old_start.ensures.place;
+      start = c.cell_of-start.ensures.place;
       table_in = c.requires.table;
       fresh = c.requires.fresh;
       mask = c.mask_of-mask.ensures;

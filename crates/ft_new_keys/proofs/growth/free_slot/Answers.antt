@@ -5,7 +5,7 @@ use Rattle.ft_layout.specs.Tables.{UsedEntry, is_live}
 use Rattle.ft_keys.specs.declared.search.Found.{Found}
 use Rattle.ft_keys.specs.Searches.{Finds}
 use Rattle.ft_bank.specs.Passes.{shape_of}
-use Rattle.ft_search.proofs.Rounding.{looks_did}
+use Rattle.ft_search.proofs.LoadedLooks.{looks_did}
 use Rattle.ft_new_keys.proofs.growth.free_slot.Goals as goal
 
 still : (key : Key) (e : UsedEntry) (es : List UsedEntry) (b : Bool) → All (λ (x : UsedEntry). x.key ≢ key) (cond b (e ∷ es) es) → All (λ (x : UsedEntry). x.key ≢ key) es

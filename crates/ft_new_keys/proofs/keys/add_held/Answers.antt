@@ -3,7 +3,6 @@ use Rattle.ft_layout.specs.declared.slot.Ref.{Ref}
 use Rattle.ft_layout.specs.declared.slot.Stored.TheVariants.{Plain}
 use Rattle.ft_bank.specs.Passes.{shape_of, view}
 use Rattle.ft_boxes.specs.References.{box_of}
-use Rattle.ft_table_calls.specs.declared.adding.Added.TheVariants as added
 use Rattle.ft_new_keys.specs.HeldKeys.{AddsHeldKey, HoldsFor, PutsInBox}
 use Rattle.ft_new_keys.proofs.HeldCalls.{held_key, puts_untouched, still_holds, still_settled}
 use Rattle.ft_new_keys.proofs.HeldKeys.{holds_box}

@@ -22,6 +22,9 @@ use Rattle.ft_parting.proofs.choosing.put_last.Goals as goal
 pub mask_of-old_mask-requires : goal.mask_of-old_mask-requires
 mask_of-old_mask-requires c = (c.requires.keyed.table_in c.args.old refl).0
 
+pub cell_of-old_start-requires : goal.cell_of-old_start-requires
+cell_of-old_start-requires c = record { table = c.requires.keyed.table_in c.args.old refl }
+
 pub place_in-requires-clause-can : goal.place_in-requires-clause-can
 place_in-requires-clause-can c =
     let a = c.args in
@@ -35,6 +38,8 @@ place_in-requires-clause-can c =
       old_in = keyed.table_in a.old refl;
       old_root = keyed.root;
       old_mask = c.mask_of-old_mask.ensures;
+      old_start = c.cell_of-old_start.ensures.place;
+      start = c.cell_of-start.ensures.place;
       table_in = c.requires.table;
       fresh = c.requires.fresh;
       mask = c.mask_of-mask.ensures;

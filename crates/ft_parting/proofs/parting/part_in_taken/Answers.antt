@@ -27,7 +27,7 @@ use Rattle.ft_new_keys.proofs.Taken.{tried_has, tried_knows, tried_may, tried_wo
 use Rattle.ft_merging.specs.Parting.{parted}
 use Rattle.ft_merging.proofs.ThinningEnds.{is_set}
 use Rattle.ft_replacing.specs.Replacing.{Replaces}
-use Rattle.ft_replacing.proofs.PlainFills.{plain_filled, plain_others}
+use Rattle.ft_replacing.proofs.PlainFills.{plain_filled, plain_named}
 use Rattle.ft_replacing.proofs.Replaced.{replaces_later}
 use Rattle.ft_parting.proofs.PartedSets.{part_few, part_room, parted_next, parts_replaces}
 use Rattle.ft_parting.proofs.parting.part_in_taken.Goals as goal
@@ -140,7 +140,7 @@ swap_table-number-requires-clause-named c =
     let t = words_t at.In-Taken in
     let x = view c.fill_parted.new.pass in
     let v = view a.pass.now in
-    plain_others k a.merge.now.o (table_id c.in-Taken.new) (content.Set (parted (known_state a.merge.now.o v).content (known_state a.merge.now.t v).content)) x c.fill_parted.ensures.pass.1 (keyed_s at.Start) (sym c.requires.merge.way)
+    plain_named k a.merge.now.o (table_id c.in-Taken.new) (content.Set (parted (known_state a.merge.now.o v).content (known_state a.merge.now.t v).content)) x c.fill_parted.ensures.pass.1 (keyed_s at.Start) (sym c.requires.merge.way)
     (subst (λ (z : ContainerState × ContainerState). IsFilledWith k.texts (class_of (table_id c.in-Taken.new)) (content.Set (parted z.0.content z.1.content)) (in_hand (table_id c.in-Taken.new) x)) (λ i. (s.1 i, t.1 i)) c.fill_parted.ensures.filled)
 
 pub swap_table-number-requires-clause-gets : goal.swap_table-number-requires-clause-gets

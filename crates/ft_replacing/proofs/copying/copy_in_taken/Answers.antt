@@ -220,7 +220,7 @@ returns-in-Taken-clause-shares c made =
     let words_d : held_words a.d u ≡ held_words a.d v = (e.keeps.held.words a.d (subst (λ (z : Shape). a.d < container_count z) (sym c.requires.pass.1) c.requires.keyed.container) c.requires.keyed.locked).0 in
     let words_e : in_hand t x ≡ (held_words a.e w).table = sym c.swap_table-number.ensures.raw ∙ ap (λ (z : ContainerWords). z.table) (sym retired) in
     copy_shares k a.d a.e a.next a.from t v w c.requires.keyed.root (ap root_in retired ∙ c.swap_table-number.ensures.root) c.requires.next
-    (λ own is other. subst (λ (z : ContainerWords × List ℕ). SharesEntries k.texts a.next (class_of (table_id own)) z.0.table (class_of t) z.1) (λ i. (words_d i, words_e i)) (c.fill_for.ensures.shares own is other))
+    (λ own is. subst (λ (z : ContainerWords × List ℕ). SharesEntries k.texts a.next (class_of (table_id own)) z.0.table (class_of t) z.1) (λ i. (words_d i, words_e i)) (c.fill_for.ensures.shares own is))
 
 pub returns-in-AllTaken-clause-shares : goal.returns-in-AllTaken-clause-shares
 returns-in-AllTaken-clause-shares c made = not_made _ refl made

@@ -249,7 +249,7 @@ returns-in-Some-clause-shares c made =
     shares_before (shape_of a.bank.now) a.d a.e v u (view c.copy_in_taken.new.pass) (loaded_held v u a.d (only_last p)) (known_last p a.e) (c.copy_in_taken.ensures.shares made)
 
 pub returns-in-None-clause-shares : goal.returns-in-None-clause-shares
-returns-in-None-clause-shares c made s t other has_s has_t =
+returns-in-None-clause-shares c made s t has_s has_t =
     let a = c.args in
     let g = c.clear_keyed.ensures.cleared.1.2 in
     let w = view c.clear_keyed.new.pass in

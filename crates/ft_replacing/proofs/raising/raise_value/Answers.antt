@@ -2,18 +2,19 @@ use Rattle.std.proofs.Common.{◌≡◌, ℕ, ◌+◌, ◌<◌, ◌≤◌, ◌^�
 use Rattle.std.specs.Prelude.{slice_index}
 use Rattle.ft_trace.specs.declared.Act.TheVariants.{ReadTable}
 use Rattle.ft_trace.specs.declared.View.{View}
-use Rattle.ft_trace.specs.Boxes.{names_box, references_held, IsSettled}
+use Rattle.ft_trace.specs.Addresses.{IsBoxName}
+use Rattle.ft_trace.specs.Boxes.{names_box, references_held, IsSettled, KeepsBox}
 use Rattle.ft_trace.specs.Holds.{in_hand}
 use Rattle.ft_bank.specs.Passes.{shape_of, view}
 use Rattle.ft_bank.specs.SameBoxes.{HoldsFew}
 use Rattle.ft_bank.specs.TableNames.{table_id}
-use Rattle.ft_bank.specs.Whole.{OnlyLoaded}
+use Rattle.ft_bank.specs.Whole.{OnlyBoxed, OnlyLoaded}
 use Rattle.ft_bank.proofs.DoneBoxes.{settled_then, stays_settled_same}
 use Rattle.ft_bank.proofs.KnownAfterWrites.{boxed_then, gains_fewer, gains_then, loaded_boxed, loaded_by, loaded_then}
+use Rattle.ft_boxes.proofs.Heaps.{loaded_then as loaded_keeps_then}
 use Rattle.ft_search.proofs.Overs.{boxed_names, other_way, plain_names}
-use Rattle.ft_table_calls.proofs.Dropped.{hand_same, held_loaded}
-use Rattle.ft_replacing.specs.Sharing.{IsNamedBy}
-use Rattle.ft_replacing.proofs.NamedRows.{is_box, is_kept, named_boxed}
+use Rattle.ft_table_calls.proofs.Dropped.{hand_same, held_loaded, keeps_loads}
+use Rattle.ft_replacing.proofs.NamedRows.{kept_boxed}
 use Rattle.ft_replacing.proofs.raising.raise_value.Goals as goal
 use Rattle.ft_replacing.proofs.raising.raise_value.Goals.{After-read_word-kind, After-read_word-named}
 
@@ -50,13 +51,18 @@ module _ (c : After-read_word-named) where
   four : slice_index (in_hand (table_id c.args.table) (view c.args.pass.now)) c.args.word ≡ 4
   four = sym (c.read_word-kind.ensures.fresh c.requires.fresh) ∙ c.if-kind-ne-BOX_KIND.false
 
-  source : (q : ℕ) × IsNamedBy (shape_of c.args.bank.now) q c.read_word-named.result (view c.read_word-named.new.pass)
+  boxed : OnlyBoxed (view c.args.pass.now) (view c.read_word-named.new.pass)
+  boxed = loaded_boxed u w loads
+
+  -- the box is kept on
+  source : IsBoxName (shape_of c.args.bank.now) c.read_word-named.result × KeepsBox (shape_of c.args.bank.now) c.read_word-named.result (view c.read_word-named.new.pass).log
   source =
-      let n = c.requires.named four in (
-        n.0,
-        subst (λ (b : ℕ). IsNamedBy (shape_of c.args.bank.now) n.0 b (view c.read_word-named.new.pass)) (sym named_is)
-            (named_boxed (shape_of c.args.bank.now) n.0 (slice_index (in_hand (table_id c.args.table) (view c.args.pass.now)) (c.args.word + 1)) u w (loaded_boxed u w loads) n.1),
-      )
+      let k = shape_of c.args.bank.now in
+      let n = slice_index (in_hand (table_id c.args.table) (view c.args.pass.now)) (c.args.word + 1) in
+      let kept = c.requires.kept four in
+      let held = held_loaded k u w c.requires.pass.1 loads n in
+      subst (λ (b : ℕ). IsBoxName k b × KeepsBox k b w.log) (sym named_is)
+      (kept.0, kept_boxed k n u w c.requires.pass.1 boxed (omega (arith, held)) kept.1)
 
   settled : IsSettled (view c.read_word-named.new.pass).log
   settled = (stays_settled_same u w loads.boxes.made).settled c.requires.settled
@@ -71,16 +77,10 @@ pub overflow_add-word : goal.overflow_add-word
 overflow_add-word c = let n = c.requires.word in let s = c.requires.start.1 in let l = c.args.bank.now.low in omega (arith, n, s, l)
 
 pub raise_named-requires-clause-name : goal.raise_named-requires-clause-name
-raise_named-requires-clause-name c =
-    let d = (goal.at.raise_named-requires-clause-name c).After-read_word-named in
-    let n = source d in
-    is_box (shape_of c.args.bank.now) n.0 c.read_word-named.result (view c.read_word-named.new.pass) ((loads d).work.pass.shape ∙ c.requires.pass.1) n.1 c.read_word-named.new.pass.possible
+raise_named-requires-clause-name c = (source (goal.at.raise_named-requires-clause-name c).After-read_word-named).0
 
 pub raise_named-requires-clause-kept : goal.raise_named-requires-clause-kept
-raise_named-requires-clause-kept c =
-    let d = (goal.at.raise_named-requires-clause-kept c).After-read_word-named in
-    let n = source d in
-    is_kept (shape_of c.args.bank.now) n.0 c.read_word-named.result (view c.read_word-named.new.pass) ((loads d).work.pass.shape ∙ c.requires.pass.1) n.1 c.read_word-named.new.pass.possible
+raise_named-requires-clause-kept c = (source (goal.at.raise_named-requires-clause-kept c).After-read_word-named).1
 
 pub raise_named-requires-clause-settled : goal.raise_named-requires-clause-settled
 raise_named-requires-clause-settled c = settled (goal.at.raise_named-requires-clause-settled c).After-read_word-named
@@ -97,6 +97,10 @@ returns-then-kind-ne-BOX_KIND-clause-only c =
 pub returns-then-kind-ne-BOX_KIND-clause-stays : goal.returns-then-kind-ne-BOX_KIND-clause-stays
 returns-then-kind-ne-BOX_KIND-clause-stays c =
     stays_settled_same (view c.args.pass.now) (view c.read_word-kind.new.pass) (load_kind (goal.at.returns-then-kind-ne-BOX_KIND-clause-stays c).After-read_word-kind).boxes.made
+
+pub returns-then-kind-ne-BOX_KIND-clause-values : goal.returns-then-kind-ne-BOX_KIND-clause-values
+returns-then-kind-ne-BOX_KIND-clause-values c =
+    keeps_loads (view c.args.pass.now) (view c.read_word-kind.new.pass) c.args.pass.now.possible (load_kind (goal.at.returns-then-kind-ne-BOX_KIND-clause-values c).After-read_word-kind)
 
 -- loads raise nothing
 gains_loads : (v w : View) → OnlyLoaded v w → (b : ℕ) → references_held w.shape b w.log ≤ references_held v.shape b v.log
@@ -129,6 +133,11 @@ returns-clause-stays c =
     let d = (goal.at.returns-clause-stays c).After-read_word-named in
     settled_then (view c.args.pass.now) (view c.read_word-named.new.pass) (view c.raise_named.new.pass) (stays_settled_same (view c.args.pass.now) (view c.read_word-named.new.pass) (loads d).boxes.made)
     (record { settled = λ s. c.raise_named.ensures.settled; places = c.raise_named.ensures.places })
+
+pub returns-clause-values : goal.returns-clause-values
+returns-clause-values c =
+    let d = (goal.at.returns-clause-values c).After-read_word-named in
+    (loaded_keeps_then (view c.args.pass.now) (view c.read_word-named.new.pass) (view c.raise_named.new.pass) c.args.pass.now.possible (loads d) c.raise_named.ensures.only c.raise_named.ensures.values).1
 
 pub returns-clause-gains : goal.returns-clause-gains
 returns-clause-gains c =

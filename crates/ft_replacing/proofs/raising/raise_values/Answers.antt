@@ -1,10 +1,9 @@
-use Rattle.std.proofs.Common.{◌≡◌, ℕ, suc, ◌+◌, ◌*◌, ◌^◌, ◌<◌, ◌≤◌, refl, sym, ap, ◌∙◌, subst, arith}
+use Rattle.std.proofs.Common.{◌≡◌, ℕ, suc, ◌+◌, ◌*◌, ◌^◌, ◌<◌, refl, sym, ap, ◌∙◌, subst, arith}
 use Rattle.std.specs.Prelude.{slice_index}
 use Rattle.ft_model.specs.declared.script.Kind.{Kind}
 use Rattle.ft_trace.specs.declared.Shape.{Shape}
-use Rattle.ft_trace.specs.declared.View.{View}
-use Rattle.ft_trace.specs.Addresses.{class_of, size}
-use Rattle.ft_trace.specs.Boxes.{value_at, names_box, names_box_at, references_held}
+use Rattle.ft_trace.specs.Addresses.{class_of, size, IsBoxName}
+use Rattle.ft_trace.specs.Boxes.{value_at, names_box, names_box_at, references_held, KeepsBox}
 use Rattle.ft_trace.specs.ContainerStates.{kind_in}
 use Rattle.ft_trace.specs.Holds.{in_hand}
 use Rattle.ft_trace.specs.Kinds.{rows}
@@ -15,11 +14,12 @@ use Rattle.ft_bank.specs.TableNames.{table_id}
 use Rattle.ft_bank.proofs.BoxedSteps.{made_same}
 use Rattle.ft_bank.proofs.DoneBoxes.{settled_then, stays_settled_same}
 use Rattle.ft_bank.proofs.KnownAfterWrites.{boxed_then, gains_fewer, gains_then, loaded_boxed}
+use Rattle.ft_boxes.proofs.Steps.{keeps_self}
 use Rattle.ft_search.proofs.Calling.{loaded_same}
 use Rattle.ft_search.proofs.Puts.{table_class}
 use Rattle.ft_table_calls.proofs.Dropped.{hand_same}
-use Rattle.ft_replacing.specs.Sharing.{IsNamedBy}
-use Rattle.ft_replacing.proofs.NamedRows.{named_boxed}
+use Rattle.ft_replacing.proofs.NamedRows.{kept_boxed}
+use Rattle.ft_replacing.proofs.KeptValues.{keeps_more}
 use Rattle.ft_replacing.proofs.RaisedRows.{rows_few, sum_few}
 use Rattle.ft_replacing.proofs.raising.raise_values.Goals as goal
 use Rattle.ft_replacing.proofs.raising.raise_values.Goals.{In-loop-row}
@@ -28,7 +28,7 @@ pub loop-row-init : goal.loop-row-init
 loop-row-init c =
     let v = view c.args.pass.now in
     let l = loaded_boxed v v (loaded_same v) in
-    record { pass = c.requires.pass; stack = refl; only = l; stays = stays_settled_same v v (made_same v); gains = gains_fewer v v l (λ b. omega arith); held = λ b. omega arith }
+    record { pass = c.requires.pass; stack = refl; only = l; stays = stays_settled_same v v (made_same v); values = keeps_self v; gains = gains_fewer v v l (λ b. omega arith); held = λ b. omega arith }
 
 -- the value of the row lies inside the table
 row_low : (c : In-loop-row) → c.loop-row.row < rows (kind_in (shape_of c.args.bank.now).starts c.args.o) (class_of (table_id c.args.table))
@@ -93,9 +93,9 @@ raise_value-requires-clause-few c b =
     let less : references_held k b (view c.loop-row.pass).log < 2 ^ 31 = omega (arith, held, few, low, all, start) in
     subst (λ (z : Shape). references_held z b (view c.loop-row.pass).log < 2 ^ 31) (sym c.loop-row.invariant.pass.1) less
 
-pub raise_value-requires-clause-named : goal.raise_value-requires-clause-named
-raise_value-requires-clause-named c four =
-    let d = (goal.at.raise_value-requires-clause-named c).In-loop-row in
+pub raise_value-requires-clause-kept : goal.raise_value-requires-clause-kept
+raise_value-requires-clause-kept c four =
+    let d = (goal.at.raise_value-requires-clause-kept c).In-loop-row in
     let k = shape_of c.args.bank.now in
     let kd : Kind = kind_in k.starts c.args.o in
     let class = class_of (table_id c.args.table) in
@@ -105,11 +105,11 @@ raise_value-requires-clause-named c four =
     let same = hand_now d in
     let is = row_at d in
     let next : suc (value_at kd class row) ≡ word + 1 = omega (arith, is) in
-    let n = c.requires.named row (row_low d) ((λ i. slice_index (sym same i) (is i)) ∙ four) in (
-      n.0,
-      subst (λ (b : ℕ). IsNamedBy k n.0 b (view c.loop-row.pass)) (λ i. slice_index (sym same i) (next i))
-          (named_boxed k n.0 (slice_index hand (suc (value_at kd class row))) (view c.args.pass.now) (view c.loop-row.pass) c.loop-row.invariant.only n.2),
-    )
+    let n = slice_index hand (suc (value_at kd class row)) in
+    let kept = c.requires.kept row (row_low d) ((λ i. slice_index (sym same i) (is i)) ∙ four) in
+    let held = c.loop-row.invariant.held n in
+    subst (λ (b : ℕ). IsBoxName k b × KeepsBox k b (view c.loop-row.pass).log) (λ i. slice_index (sym same i) (next i))
+    (kept.0, kept_boxed k n (view c.args.pass.now) (view c.loop-row.pass) c.requires.pass.1 c.loop-row.invariant.only (omega (arith, held)) kept.1)
 
 pub loop-row-preserved : goal.loop-row-preserved
 loop-row-preserved c =
@@ -134,6 +134,12 @@ loop-row-preserved c =
       stack = e.stack ∙ i.stack;
       only = boxed_then u v w i.only e.only;
       stays = settled_then u v w i.stays e.stays;
+      values = keeps_more u v w i.only.work.pass.shape
+          (λ b.
+          let before = i.held b in
+          let now : references_held v.shape b v.log ≡ references_held k b v.log = ap (λ (z : Shape). references_held z b v.log) i.pass.1 in
+          let was : references_held u.shape b u.log ≡ references_held k b u.log = ap (λ (z : Shape). references_held z b u.log) c.requires.pass.1 in
+          omega (arith, before, now, was)) i.values e.values;
       gains = gains_then u v w i.gains e.gains;
       held = λ b.
           let one : references_held k b w.log ≡ references_held k b v.log + names_box_at b kd class hand row = e.references b ∙ (λ j. references_held k b v.log + names_box b (slice_index (same j) (sym is j)) (slice_index (same j) (sym next j))) in
@@ -147,6 +153,9 @@ returns-clause-only c = c.loop-row.invariant.only
 
 pub returns-clause-stays : goal.returns-clause-stays
 returns-clause-stays c = c.loop-row.invariant.stays
+
+pub returns-clause-values : goal.returns-clause-values
+returns-clause-values c = c.loop-row.invariant.values
 
 pub returns-clause-gains : goal.returns-clause-gains
 returns-clause-gains c = c.loop-row.invariant.gains

@@ -9,6 +9,7 @@ use Rattle.ft_bank.specs.PassSections.{stack_of}
 use Rattle.ft_bank.specs.SameBoxes.{GainsRaised, StaysSettled}
 use Rattle.ft_bank.specs.TableNames.{table_id}
 use Rattle.ft_bank.specs.Whole.{OnlyBoxed}
+use Rattle.ft_boxes.specs.References.{KeepsValues}
 use Rattle.ft_replacing.proofs.raising.raise_values.Given as goal
 
 -- the counts of the rows before this one are raised
@@ -18,6 +19,7 @@ invariant-loop-row l = record {
   stack : stack_of l.pass ≡ stack_of l.fn.pass;
   only : OnlyBoxed (view l.fn.pass) (view l.pass);
   stays : StaysSettled (view l.fn.pass) (view l.pass);
+  values : KeepsValues (view l.fn.pass) (view l.pass);
   gains : GainsRaised (view l.fn.pass) (view l.pass);
   held : (b : ℕ) → references_held (shape_of l.bank) b (view l.pass).log
       ≡ references_held (shape_of l.bank) b (view l.fn.pass).log

@@ -1,6 +1,5 @@
-use Rattle.std.proofs.Common.{◌≡◌, ◌≢◌, ℕ, suc, ◌<◌, ◌≤◌, ◌∷◌, List, length, filter, Some, refl, sym, ap, ◌∙◌, subst, arith}
+use Rattle.std.proofs.Common.{◌≡◌, ℕ, suc, ◌<◌, ◌≤◌, ◌∷◌, List, length, filter, Some, sym, ap, ◌∙◌, subst, arith}
 use Rattle.std.specs.Prelude.{slice_index}
-use Rattle.ft_model.specs.declared.content.Content.{Content}
 use Rattle.ft_model.specs.declared.content.Content.TheVariants as content
 use Rattle.ft_model.specs.declared.script.Kind.{Kind}
 use Rattle.ft_model.specs.declared.script.Kind.TheVariants as kind
@@ -13,13 +12,13 @@ use Rattle.ft_keys.specs.declared.walk.Way.TheVariants as way
 use Rattle.ft_trace.specs.declared.Shape.{Shape}
 use Rattle.ft_trace.specs.declared.View.{View}
 use Rattle.ft_trace.specs.Acts.{mem}
-use Rattle.ft_trace.specs.Addresses.{class_of, slots, size}
+use Rattle.ft_trace.specs.Addresses.{class_of, size}
 use Rattle.ft_trace.specs.Boxes.{known_box_word, value_at}
 use Rattle.ft_trace.specs.ContainerStates.{ContainerState, kind_in}
 use Rattle.ft_trace.specs.Holds.{hand_unboxed, held_unboxed, held_words, in_hand, known_state}
 use Rattle.ft_trace.specs.Kinds.{rows}
-use Rattle.ft_trace.specs.Pictures.{ContainerWords, entry_field}
-use Rattle.ft_trace.specs.Unboxed.{unboxed_rows, unboxed_table}
+use Rattle.ft_trace.specs.Pictures.{ContainerWords}
+use Rattle.ft_trace.specs.Unboxed.{unboxed_table}
 use Rattle.ft_trace.proofs.Pieces.{table_long}
 use Rattle.ft_bank.specs.Passes.{shape_of, view}
 use Rattle.ft_bank.specs.TableNames.{table_id}
@@ -33,7 +32,6 @@ use Rattle.ft_new_keys.specs.KeyGrowth.{KnowsKeyed}
 use Rattle.ft_new_keys.proofs.FilledTables.{room_of_way}
 use Rattle.ft_new_keys.proofs.Grown.{knows_filled, same_filled, words_filled}
 use Rattle.ft_new_keys.proofs.Keyed.{counts_known}
-use Rattle.ft_replacing.specs.Internal.Numbering.{renumbered}
 use Rattle.ft_replacing.specs.Sharing.{IsNamedBy, SharesEntries}
 use Rattle.ft_replacing.proofs.Replaced.{dict_of_kind}
 use Rattle.ft_replacing.proofs.SharedDicts.{dict_filled, dict_rows, dict_shares}
@@ -206,4 +204,4 @@ returns-clause-named c p low four =
     let pairs = pairs_of d n m in
     let same : kind_in y.shape.starts c.args.d ≡ kind_in k.starts c.args.e = dict d n m ∙ sym c.requires.other_dict in
     let at = subst (λ (z : Kind × Shape). (p : ℕ) → p < rows z.0 class → slice_index hand (value_at z.0 class p) ≡ 4 → IsNamedBy z.1 c.args.d (slice_index hand (suc (value_at z.0 class p))) y) (λ i. (same i, shape d n m i)) (named_at d n m pairs.0 pairs.1) in
-    (c.args.d, c.requires.other, at p low four)
+    (c.args.d, at p low four)

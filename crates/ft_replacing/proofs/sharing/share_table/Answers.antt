@@ -1,4 +1,4 @@
-use Rattle.std.proofs.Common.{◌≡◌, ℕ, ◌≤◌, ◌∷◌, List, Some, refl, sym, ap, ◌∙◌, subst, rules}
+use Rattle.std.proofs.Common.{◌≡◌, ℕ, ◌≤◌, ◌∷◌, refl, sym, ap, ◌∙◌, subst, rules}
 use Rattle.ft_layout.specs.Containers.{class_mask}
 use Rattle.ft_layout.specs.Tables.{is_live, IsDictTable}
 use Rattle.ft_keys.specs.declared.walk.Way.TheVariants as way
@@ -22,6 +22,9 @@ use Rattle.ft_replacing.proofs.sharing.share_table.Goals.{After-rebuild_in}
 pub mask_of-old_mask-requires : goal.mask_of-old_mask-requires
 mask_of-old_mask-requires c = (c.requires.keyed.table_in c.args.own refl).0
 
+pub cell_of-old_start-requires : goal.cell_of-old_start-requires
+cell_of-old_start-requires c = record { table = c.requires.keyed.table_in c.args.own refl }
+
 pub rebuild_in-requires-clause-can : goal.rebuild_in-requires-clause-can
 rebuild_in-requires-clause-can c =
     let a = c.args in
@@ -35,6 +38,8 @@ rebuild_in-requires-clause-can c =
       old_in = keyed.table_in a.own refl;
       old_root = keyed.root;
       old_mask = c.mask_of-old_mask.ensures;
+      old_start = c.cell_of-old_start.ensures.place;
+      start = c.cell_of-start.ensures.place;
       table_in = c.requires.table;
       fresh = c.requires.fresh;
       mask = c.mask_of-mask.ensures;

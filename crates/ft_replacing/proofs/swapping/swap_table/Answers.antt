@@ -7,8 +7,8 @@ use Rattle.ft_trace.specs.Pictures.{root_in}
 use Rattle.ft_bank.specs.Passes.{shape_of, view}
 use Rattle.ft_bank.proofs.TableAddresses.{class_is}
 use Rattle.ft_table_calls.specs.Dropping.{AreValuePlaces}
-use Rattle.ft_replacing.proofs.Emptied.{Emptied, fresh_emptied, named_emptied}
-use Rattle.ft_replacing.proofs.Swaps.{Swapping, committed_u, may_put_none, may_put_table, odd_rooted, odd_u, old_few, old_settled, raised_held, raised_out, raw_u, root_u, shut_u, stands_u, swapping_commits, swapping_references, swapping_wrote}
+use Rattle.ft_replacing.proofs.Emptied.{Emptied, fresh_emptied}
+use Rattle.ft_replacing.proofs.Swaps.{Swapping, committed_u, kept_rooted, may_put_none, may_put_table, odd_rooted, odd_u, old_few, old_settled, raised_held, raised_out, raw_u, root_u, shut_u, stands_u, swapping_commits, swapping_references, swapping_wrote}
 use Rattle.ft_replacing.proofs.swapping.swap_table.Goals as goal
 use Rattle.ft_replacing.proofs.swapping.swap_table.Goals.{After-drop_old, After-put_root, After-raise_values}
 
@@ -50,8 +50,8 @@ raise_values-requires-clause-settled c = old_settled c.words_are_of_one_content.
 pub raise_values-requires-clause-few : goal.raise_values-requires-clause-few
 raise_values-requires-clause-few c = old_few c.words_are_of_one_content.ensures.head (shape_of c.args.bank.now) c.args.o c.args.old c.args.table c.start_write.result (view c.args.pass.now) (view c.start_write.new.pass) (view c.put_root.new.pass) c.requires.pass.1 c.requires.may c.start_write.ensures.1 c.put_root.ensures.did.1 c.put_root.ensures.unboxed c.put_root.ensures.moves
 
-pub raise_values-requires-clause-named : goal.raise_values-requires-clause-named
-raise_values-requires-clause-named c = named_emptied (shape_of c.args.bank.now) c.args.o c.args.old c.args.table c.start_write.result (view c.args.pass.now) (view c.start_write.new.pass) (view c.put_root.new.pass) (emptied (goal.at.raise_values-requires-clause-named c).After-put_root)
+pub raise_values-requires-clause-kept : goal.raise_values-requires-clause-kept
+raise_values-requires-clause-kept c = kept_rooted (shape_of c.args.bank.now) c.args.o c.args.old c.args.table c.start_write.result (view c.args.pass.now) (view c.start_write.new.pass) (view c.put_root.new.pass) (emptied (goal.at.raise_values-requires-clause-kept c).After-put_root) c.put_root.new.pass.possible
 
 -- the pass holds no fewer references then
 more : (c : After-raise_values) → (b : ℕ) → references_held (shape_of c.args.bank.now) b (view c.put_root.new.pass).log ≤ references_held (shape_of c.args.bank.now) b (view c.raise_values.new.pass).log
@@ -78,6 +78,9 @@ swapping c before = record {
   stays = c.raise_values.ensures.stays;
   gains = c.raise_values.ensures.gains;
   raised = c.raise_values.ensures.references;
+  possible = c.put_root.new.pass.possible;
+  raise_keeps = c.raise_values.ensures.values;
+  drop_keeps = c.drop_old.ensures.values;
   drops = c.drop_old.ensures.only;
   made = c.drop_old.ensures.made;
   dropped = c.drop_old.ensures.references;

@@ -1,4 +1,4 @@
-use Rattle.std.proofs.Common.{[], ◌∷◌, refl, subst, sym}
+use Rattle.std.proofs.Common.{[], refl, subst, sym}
 use Rattle.ft_trace.specs.declared.Act.TheVariants.{ReadCounter}
 use Rattle.ft_trace.specs.Acts.{view_after}
 use Rattle.ft_bank.specs.Passes.{view}

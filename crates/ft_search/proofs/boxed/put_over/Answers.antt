@@ -1,4 +1,4 @@
-use Rattle.std.proofs.Common.{◌≡◌, ℕ, ◌+◌, ◌<◌, List, [], ◌∷◌, refl, sym, ap, ◌∙◌, subst, arith}
+use Rattle.std.proofs.Common.{◌≡◌, ℕ, ◌+◌, ◌<◌, [], ◌∷◌, refl, sym, ap, ◌∙◌, subst, arith}
 use Rattle.std.specs.Prelude.{slice_index}
 use Rattle.ft_trace.specs.declared.Act.TheVariants.{PutTable}
 use Rattle.ft_trace.specs.declared.Shape.{Shape}
@@ -12,7 +12,7 @@ use Rattle.ft_bank.specs.Passes.{shape_of, view}
 use Rattle.ft_bank.specs.TableNames.{table_id}
 use Rattle.ft_bank.specs.Series.{noted_all}
 use Rattle.ft_bank.specs.Whole.{OnlyLoaded}
-use Rattle.ft_search.proofs.Overs.{value_inside, word_inside, table_loaded, open_as, still_unboxed, here_open, here_writes, same_writes, same_raw, same_stands, same_refs, same_words, both_writes, both_raw, both_stands, both_refs, both_words, over_only, box_settled, box_held, box_is, drop_only, drop_refs, drop_writes, drop_raw, drop_stands, drop_words}
+use Rattle.ft_search.proofs.Overs.{value_inside, word_inside, table_loaded, open_as, still_unboxed, same_writes, same_raw, same_stands, same_refs, same_words, both_writes, both_raw, both_stands, both_refs, both_words, over_only, box_settled, box_held, box_is, drop_only, drop_refs, drop_writes, drop_raw, drop_stands, drop_words}
 use Rattle.ft_search.proofs.ValueLoads.{kind_load, kind_found, both_load, kind_stays, payload_found}
 use Rattle.ft_search.proofs.Owning.{own_loaded, reads_loaded}
 use Rattle.ft_boxes.specs.References.{KeepsValues}

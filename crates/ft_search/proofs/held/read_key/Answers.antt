@@ -14,7 +14,7 @@ use Rattle.ft_bank.specs.TableNames.{table_id}
 use Rattle.ft_search.specs.Held.{ReadsEntry}
 use Rattle.ft_search.proofs.Costing.{few_before}
 use Rattle.ft_search.proofs.Running.{did_trans}
-use Rattle.ft_search.proofs.Rounding.{looks_append, looks_did}
+use Rattle.ft_search.proofs.LoadedLooks.{looks_append, looks_did}
 use Rattle.ft_search.proofs.FoundInContents.{of_way, bare_held, key_held}
 use Rattle.ft_trace.specs.declared.Shape.{Shape}
 use Rattle.ft_search.proofs.held.read_key.Goals as goal

@@ -9,7 +9,7 @@ use Rattle.ft_bank.proofs.LastLoads.{between_last}
 use Rattle.ft_search.specs.Lengths.{len_of, IsGlanceOf}
 use Rattle.ft_search.proofs.Asking.{may_ask, answered_after}
 use Rattle.ft_search.proofs.Lengths.{len_shown}
-use Rattle.ft_search.proofs.Rounding.{looks_did}
+use Rattle.ft_search.proofs.LoadedLooks.{looks_did}
 use Rattle.ft_search.proofs.Running.{did_log}
 use Rattle.ft_search.proofs.lens.look_len.Goals as goal
 

@@ -3,10 +3,11 @@ use Rattle.ft_trace.specs.declared.Act.{Act}
 use Rattle.ft_trace.specs.declared.Act.TheVariants.{ReadRoot}
 use Rattle.ft_trace.specs.Acts.{announces, reads}
 use Rattle.ft_bank.specs.Passes.{shape_of, view}
-use Rattle.ft_trace.specs.LoggedLookUps.{Inner}
-use Rattle.ft_search.specs.KeyLooks.{AreLooks, ShowsLooked}
+use Rattle.ft_search.specs.KeyLooks.{ShowsLooked}
+use Rattle.ft_search.specs.LookSteps.{AreLookSteps, AreRoundSteps}
 use Rattle.ft_search.proofs.Running.{did_trans, did_log}
-use Rattle.ft_search.proofs.Rounding.{looks_inner, looks_append, looks_did, looks_announce, looked_in, falls}
+use Rattle.ft_search.proofs.LookSteps.{looked_by, looked_few, looked_then, steps_announce, steps_append, steps_online}
+use Rattle.ft_search.proofs.Rounding.{looked_in, falls}
 use Rattle.ft_search.proofs.Spending.{one_round, own_reads}
 use Rattle.ft_search.proofs.look.look_up.Goals as goal
 
@@ -16,7 +17,7 @@ rounds-init c =
     record {
       pass = (did.0 ∙ c.requires.pass.0, ap (λ v. v.shape) did.1 ∙ c.requires.pass.1);
       table = c.read_root-root.ensures.table;
-      made = ([], tt, did);
+      made = ([], tt, looked_by (ReadRoot c.args.o c.read_root-root.result ∷ []) c.args.pass.now c.read_root-root.new.pass tt did, did);
       spent = (0, ReadRoot c.args.o c.read_root-root.result ∷ [], tt, did, refl);
     }
 
@@ -24,21 +25,25 @@ pub look_round-requires-clause-online : goal.look_round-requires-clause-online
 look_round-requires-clause-online c =
     let m = c.rounds.invariant.made in
     let acts : List Act = ReadRoot c.args.o c.rounds.root ∷ m.0 in
-    let same : announces (view c.rounds.pass).log ≡ announces (view c.args.pass.now).log = ap announces (did_log acts c.args.pass.now c.rounds.pass m.2) ∙ looks_announce acts (view c.args.pass.now).log m.1 in
+    let same : announces (view c.rounds.pass).log ≡ announces (view c.args.pass.now).log = ap announces (did_log acts c.args.pass.now c.rounds.pass m.3) ∙ steps_announce acts (view c.args.pass.now).log m.1 in
     subst (λ (z : ℕ). 0 < z) (sym same) c.requires.online
 
 pub look_round-requires-clause-last : goal.look_round-requires-clause-last
 look_round-requires-clause-last c =
     let m = c.rounds.invariant.made in
-    (m.0 ++ (view c.args.pass.now).log, did_log (ReadRoot c.args.o c.rounds.root ∷ m.0) c.args.pass.now c.rounds.pass m.2)
+    (m.0 ++ (view c.args.pass.now).log, did_log (ReadRoot c.args.o c.rounds.root ∷ m.0) c.args.pass.now c.rounds.pass m.3)
+
+pub look_round-requires-clause-settled : goal.look_round-requires-clause-settled
+look_round-requires-clause-settled c = c.rounds.invariant.made.2.made.settled c.requires.settled
+
+pub look_round-requires-clause-few : goal.look_round-requires-clause-few
+look_round-requires-clause-few c = looked_few (view c.args.pass.now) (view c.rounds.pass) c.rounds.invariant.made.2 c.requires.few
 
 pub returns-in-Ended-clause-keeps : goal.returns-in-Ended-clause-keeps
 returns-in-Ended-clause-keeps c =
     let m = c.rounds.invariant.made in
-    let old : List Act = ReadRoot c.args.o c.rounds.root ∷ m.0 in
     let e = c.in-Ended.ensures.ended in
-    let did = did_trans e.0 old c.args.pass.now c.rounds.pass c.look_round.new.pass m.2 e.2 in
-    looks_did (e.0 ++ old) c.args.pass.now c.look_round.new.pass (looks_append e.0 old e.1 m.1) did
+    looked_then (view c.args.pass.now) (view c.rounds.pass) (view c.look_round.new.pass) m.2 e.2
 
 pub returns-in-Ended-clause-looked : goal.returns-in-Ended-clause-looked
 returns-in-Ended-clause-looked c =
@@ -49,9 +54,9 @@ returns-in-Ended-clause-looked c =
     let log = (view c.look_round.new.pass).log in
     let one : List Act = ReadRoot c.args.o c.rounds.root ∷ [] in (
       e.0 ++ old,
-      looks_append e.0 old e.1 m.1,
-      did_trans e.0 old c.args.pass.now c.rounds.pass c.look_round.new.pass m.2 e.2,
-      subst (λ (z : List Act). ShowsLooked k c.args.o c.args.key z log c.in-Ended.looked) (append_assoc e.0 one m.0) (looked_in k c.args.o c.args.key (e.0 ++ one) m.0 log c.in-Ended.looked e.3),
+      steps_append e.0 old e.1 m.1,
+      did_trans e.0 old c.args.pass.now c.rounds.pass c.look_round.new.pass m.3 e.3,
+      subst (λ (z : List Act). ShowsLooked k c.args.o c.args.key z log c.in-Ended.looked) (append_assoc e.0 one m.0) (looked_in k c.args.o c.args.key (e.0 ++ one) m.0 log c.in-Ended.looked e.4),
     )
 
 pub rounds-smaller : goal.rounds-smaller
@@ -75,8 +80,8 @@ rounds-preserved c =
     let spent = c.rounds.invariant.spent in
     let round = c.in-Moved.ensures.spends in
     let same : e.0 ≡ round.0 = one_round c.args.o next e.0 round.0 c.rounds.pass c.look_round.new.pass e.2 round.1 in
-    let inner : Inner round.0 = subst Inner same e.1 in
-    let looks : AreLooks (round.0 ++ spent.1) = looks_append round.0 spent.1 (looks_inner round.0 inner) spent.2 in
+    let inner : AreRoundSteps round.0 = subst AreRoundSteps same e.1.0 in
+    let looks : AreLookSteps (round.0 ++ spent.1) = steps_append round.0 spent.1 inner.0 spent.2 in
     let log : e.0 ++ (view c.rounds.pass).log ≡ (round.0 ++ spent.1) ++ (view c.args.pass.now).log = ap (λ (z : List Act). z ++ (view c.rounds.pass).log) same
     ∙ (ap (λ (z : List Act). round.0 ++ z) (did_log spent.1 c.args.pass.now c.rounds.pass spent.3) ∙ sym (append_assoc round.0 spent.1 (view c.args.pass.now).log)) in
     record {
@@ -84,8 +89,9 @@ rounds-preserved c =
       table = λ t is. (e.4 t is).0;
       made = (
         e.0 ++ old,
-        looks_append e.0 old (looks_inner e.0 e.1) m.1,
-        did_trans (ReadRoot c.args.o c.in-Moved.next ∷ e.0) old c.args.pass.now c.rounds.pass c.look_round.new.pass m.2 e.2,
+        steps_append e.0 old e.1.0.0 m.1,
+        looked_then (view c.args.pass.now) (view c.rounds.pass) (view c.look_round.new.pass) m.2 e.1.1,
+        did_trans (ReadRoot c.args.o c.in-Moved.next ∷ e.0) old c.args.pass.now c.rounds.pass c.look_round.new.pass m.3 e.2,
       );
       spent = (
         suc spent.0,
@@ -100,7 +106,7 @@ rounds-preserved c =
           inner,
           round.2,
           e.3,
-          λ t is. own_reads t (round.0 ++ spent.1) (view c.args.pass.now).log looks (sym (ap (reads t) log) ∙ (e.4 t is).1),
+          λ t is. own_reads t (round.0 ++ spent.1) (view c.args.pass.now).log (steps_online (round.0 ++ spent.1) looks) (sym (ap (reads t) log) ∙ (e.4 t is).1),
           refl,
         ),
       );

@@ -7,6 +7,7 @@ use Rattle.ft_trace.specs.Pictures.{entry_offset}
 use Rattle.ft_bank.specs.Passes.{shape_of}
 use Rattle.ft_bank.specs.TableNames.{table_id}
 use Rattle.ft_search.specs.Rounds.{met_acts}
+use Rattle.ft_search.proofs.LookSteps.{in_round_by}
 use Rattle.ft_search.proofs.Running.{did_trans, at_same}
 use Rattle.ft_search.proofs.Spending.{version_none, versions_none}
 use Rattle.ft_search.proofs.Walking.{walked_more, walked_past}
@@ -24,7 +25,7 @@ returns-then-opened-eq0-clause-turns c key slot earlier left w =
     let load : Act = ReadTable t (entry_offset (slots (class_of t)) c.args.place 0) opened in
     let new : List Act = load ∷ [] in (
       new,
-      tt,
+      in_round_by new s.pass.now c.word-opened.new.self.pass.now tt tt c.word-opened.ensures.did,
       c.word-opened.ensures.did,
       walked_past k s.o t key slot left (load ∷ part) (walked_more k s.o t key (slot ∷ left) new part w)
           (deleted_passed k s.o t key slot c.args.place earlier opened (omega (arith, c.if-opened-eq0.true))),
@@ -41,10 +42,11 @@ returns-clause-turns c key slot earlier left w =
     let closed = c.word-closed.result in
     let first : Act = ReadTable t (entry_offset (slots (class_of t)) c.args.place 0) opened in
     let second : Act = ReadTable t (entry_offset (slots (class_of t)) c.args.place 0) closed in
-    let again : DidAll (second ∷ []) s1.pass.now s2.pass.now = at_same (λ _ _ n. DidAll (ReadTable n (entry_offset (slots (class_of n)) c.args.place 0) closed ∷ []) s1.pass.now s2.pass.now) s s1 c.word-opened.ensures.same c.word-closed.ensures.did in (
+    let again : DidAll (second ∷ []) s1.pass.now s2.pass.now = at_same (λ _ _ n. DidAll (ReadTable n (entry_offset (slots (class_of n)) c.args.place 0) closed ∷ []) s1.pass.now s2.pass.now) s s1 c.word-opened.ensures.same c.word-closed.ensures.did in
+    let did = did_trans (second ∷ []) (first ∷ []) s.pass.now s1.pass.now s2.pass.now c.word-opened.ensures.did again in (
       second ∷ (first ∷ []),
-      tt,
-      did_trans (second ∷ []) (first ∷ []) s.pass.now s1.pass.now s2.pass.now c.word-opened.ensures.did again,
+      in_round_by (second ∷ (first ∷ [])) s.pass.now s2.pass.now tt tt did,
+      did,
       stops_deleted k s.o t key slot c.args.place earlier c.requires.low opened closed (λ even. c.if-opened-eq0.false even),
     )
 

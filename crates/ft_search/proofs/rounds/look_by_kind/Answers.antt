@@ -11,6 +11,7 @@ use Rattle.ft_bank.specs.Passes.{shape_of}
 use Rattle.ft_bank.specs.TableNames.{table_id}
 use Rattle.ft_search.specs.Rounds.{same_acts, met_acts, live_acts, Walked, TurnsAfter}
 use Rattle.ft_search.proofs.Bounding.{word_none, both_none}
+use Rattle.ft_search.proofs.LookSteps.{in_round_by}
 use Rattle.ft_search.proofs.Running.{did_trans, same_trans, at_same, two_words}
 use Rattle.ft_search.proofs.SearchEnds.{kind_passed, changed_passed}
 use Rattle.ft_search.proofs.Walking.{walked_more, goes_on, turns_on}
@@ -35,8 +36,9 @@ returns-then-word-payload_of-clause-turns c slot earlier left w =
     let apart : found ≢ key_payload key = λ is. c.if-word-payload_of.true (is ∙ sym c.payload_of.ensures) in
     let part = same_acts t slot place key earlier in
     let passed : Passed (word t place 3 found ∷ (word t place 2 kind ∷ part)) t m slot key = subst (λ (z : ℕ). Passed (word t place 3 found ∷ (word t place 2 z ∷ part)) t m slot key) (sym live) (changed_passed k s0.o t key slot place earlier found apart) in
-    goes_on k s0.o t key slot left (word t place 3 found ∷ (word t place 2 kind ∷ [])) part s0.pass.now s2.pass.now tt
-    (two_words s0 s1 s2 place 2 kind 3 found c.word-kind.ensures.same c.word-kind.ensures.did c.word.ensures.did) w passed
+    let new : List Act = word t place 3 found ∷ (word t place 2 kind ∷ []) in
+    let did = two_words s0 s1 s2 place 2 kind 3 found c.word-kind.ensures.same c.word-kind.ensures.did c.word.ensures.did in
+    goes_on k s0.o t key slot left new part s0.pass.now s2.pass.now (in_round_by new s0.pass.now s2.pass.now tt tt did) did w passed
 
 pub returns-then-word-payload_of-clause-index : goal.returns-then-word-payload_of-clause-index
 returns-then-word-payload_of-clause-index c =
@@ -74,8 +76,8 @@ returns-then-kind-kind_of-clause-turns c slot earlier left w =
     (λ k o t. (slot : ℕ) (earlier : List Act) (left : List ℕ) → Walked k o t key (live_acts t slot place key earlier) (slot ∷ left) → TurnsAfter k o t key (live_acts t slot place key earlier) left result s2.pass.now s3.pass.now)
     s0 s2 same c.look_at.ensures.turns in
     let here : Walked k o t key (live_acts t slot place key earlier) (slot ∷ left) = subst (λ (z : List Act). Walked k o t key z (slot ∷ left)) whole (walked_more k o t key (slot ∷ left) new part w) in
-    turns_on k o t key new part left result s0.pass.now s2.pass.now s3.pass.now tt
-    (two_words s0 s1 s2 place 2 kind 3 found c.word-kind.ensures.same c.word-kind.ensures.did c.word.ensures.did)
+    let did = two_words s0 s1 s2 place 2 kind 3 found c.word-kind.ensures.same c.word-kind.ensures.did c.word.ensures.did in
+    turns_on k o t key new part left result s0.pass.now s2.pass.now s3.pass.now (in_round_by new s0.pass.now s2.pass.now tt tt did) did
     (subst (λ (z : List Act). TurnsAfter k o t key z left result s2.pass.now s3.pass.now) (sym whole) (turns slot earlier left here))
 
 pub returns-then-kind-kind_of-clause-index : goal.returns-then-kind-kind_of-clause-index
@@ -115,7 +117,7 @@ returns-then-kind-gone_kind_of-clause-turns c slot earlier left w =
     (λ k o t. (slot : ℕ) (earlier : List Act) (left : List ℕ) → Walked k o t key (met_acts t slot place key (gone_kind key) earlier) (slot ∷ left) → TurnsAfter k o t key (met_acts t slot place key (gone_kind key) earlier) left result s1.pass.now s2.pass.now)
     s0 s1 c.word-kind.ensures.same (c.look_at_deleted.ensures.turns key) in
     let here : Walked k o t key (met_acts t slot place key (gone_kind key) earlier) (slot ∷ left) = subst (λ (z : List Act). Walked k o t key z (slot ∷ left)) whole (walked_more k o t key (slot ∷ left) new part w) in
-    turns_on k o t key new part left result s0.pass.now s1.pass.now s2.pass.now tt c.word-kind.ensures.did
+    turns_on k o t key new part left result s0.pass.now s1.pass.now s2.pass.now (in_round_by new s0.pass.now s1.pass.now tt tt c.word-kind.ensures.did) c.word-kind.ensures.did
     (subst (λ (z : List Act). TurnsAfter k o t key z left result s1.pass.now s2.pass.now) (sym whole) (turns slot earlier left here))
 
 pub returns-then-kind-gone_kind_of-clause-index : goal.returns-then-kind-gone_kind_of-clause-index
@@ -137,7 +139,8 @@ returns-clause-turns c slot earlier left w =
     let kind = c.word-kind.result in
     let live : kind ≢ key_kind key = λ is. c.if-kind-kind_of.false (is ∙ sym c.kind_of.ensures) in
     let dead : kind ≢ gone_kind key = λ is. c.if-kind-gone_kind_of.false (is ∙ sym c.gone_kind_of.ensures) in
-    goes_on k s0.o t key slot left (word t c.args.place 2 kind ∷ []) (same_acts t slot c.args.place key earlier) s0.pass.now c.word-kind.new.self.pass.now tt c.word-kind.ensures.did w
+    let new : List Act = word t c.args.place 2 kind ∷ [] in
+    goes_on k s0.o t key slot left new (same_acts t slot c.args.place key earlier) s0.pass.now c.word-kind.new.self.pass.now (in_round_by new s0.pass.now c.word-kind.new.self.pass.now tt tt c.word-kind.ensures.did) c.word-kind.ensures.did w
     (kind_passed k s0.o t key slot c.args.place earlier kind live dead)
 
 pub returns-clause-index : goal.returns-clause-index

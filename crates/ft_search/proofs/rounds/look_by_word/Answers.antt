@@ -11,6 +11,7 @@ use Rattle.ft_bank.specs.Passes.{shape_of}
 use Rattle.ft_bank.specs.TableNames.{table_id}
 use Rattle.ft_search.specs.Rounds.{same_acts, Walked, TurnsAfter}
 use Rattle.ft_search.proofs.Bounding.{word_none, both_none}
+use Rattle.ft_search.proofs.LookSteps.{in_round_by}
 use Rattle.ft_search.proofs.Running.{did_none, did_trans, at_same}
 use Rattle.ft_search.proofs.SearchEnds.{payload_passed}
 use Rattle.ft_search.proofs.Walking.{beyond_passed, walked_more, goes_on, turns_on}
@@ -27,7 +28,7 @@ returns-then-word-entries-clause-turns c slot earlier left w =
     let m = rows (kind_in k.starts s.o) (class_of t) in
     let high = c.if-word-entries.true in
     let all = c.requires.entries in
-    goes_on k s.o t c.args.key slot left [] (ReadTable t slot c.args.word ∷ earlier) s.pass.now s.pass.now tt (did_none s.pass.now) w
+    goes_on k s.o t c.args.key slot left [] (ReadTable t slot c.args.word ∷ earlier) s.pass.now s.pass.now (in_round_by [] s.pass.now s.pass.now tt tt (did_none s.pass.now)) (did_none s.pass.now) w
     (beyond_passed t m slot c.args.key c.args.word earlier (omega (arith, high, all)))
 
 pub returns-then-word-entries-clause-index : goal.returns-then-word-entries-clause-index
@@ -45,7 +46,7 @@ returns-then-word-payload_of-clause-turns c slot earlier left w =
     let load : Act = ReadTable t (entry_offset (slots (class_of t)) place 3) found in
     let is = suc_place c.args.word c.requires.word in
     let apart : found ≢ key_payload key = λ e. c.if-word-payload_of.true (e ∙ sym c.payload_of.ensures) in
-    goes_on k s.o t key slot left (load ∷ []) (ReadTable t slot c.args.word ∷ earlier) s.pass.now c.word.new.self.pass.now tt c.word.ensures.did w
+    goes_on k s.o t key slot left (load ∷ []) (ReadTable t slot c.args.word ∷ earlier) s.pass.now c.word.new.self.pass.now (in_round_by (load ∷ []) s.pass.now c.word.new.self.pass.now tt tt c.word.ensures.did) c.word.ensures.did w
     (subst (λ (z : ℕ). Passed (load ∷ (ReadTable t slot z ∷ earlier)) t m slot key) is (payload_passed k s.o t key slot place earlier found apart))
 
 pub returns-then-word-payload_of-clause-index : goal.returns-then-word-payload_of-clause-index
@@ -76,7 +77,7 @@ returns-clause-turns c slot earlier left w =
     (λ k o t. (slot : ℕ) (earlier : List Act) (left : List ℕ) → Walked k o t key (same_acts t slot place key earlier) (slot ∷ left) → TurnsAfter k o t key (same_acts t slot place key earlier) left result s1.pass.now s2.pass.now)
     s0 s1 c.word.ensures.same c.look_by_kind.ensures.turns in
     let here : Walked k o t key (same_acts t slot place key earlier) (slot ∷ left) = subst (λ (z : List Act). Walked k o t key z (slot ∷ left)) whole (walked_more k o t key (slot ∷ left) new part w) in
-    turns_on k o t key new part left result s0.pass.now s1.pass.now s2.pass.now tt c.word.ensures.did
+    turns_on k o t key new part left result s0.pass.now s1.pass.now s2.pass.now (in_round_by new s0.pass.now s1.pass.now tt tt c.word.ensures.did) c.word.ensures.did
     (subst (λ (z : List Act). TurnsAfter k o t key z left result s1.pass.now s2.pass.now) (sym whole) (turns slot earlier left here))
 
 pub returns-clause-index : goal.returns-clause-index

@@ -6,6 +6,7 @@ use Rattle.ft_bank.specs.Passes.{shape_of}
 use Rattle.ft_bank.specs.TableNames.{table_id}
 use Rattle.ft_search.specs.declared.looks.Looked.TheVariants.{Absent}
 use Rattle.ft_search.proofs.Bounding.{walks_more}
+use Rattle.ft_search.proofs.LookSteps.{in_round_by}
 use Rattle.ft_search.proofs.Running.{did_none}
 use Rattle.ft_search.proofs.SearchEnds.{closes_full}
 use Rattle.ft_search.proofs.rounds.next_slot.Goals as goal
@@ -14,7 +15,9 @@ pub returns-in-Some-clause-next : goal.returns-in-Some-clause-next
 returns-in-Some-clause-next c = (c.in-Some.ensures.within, front-of c.args.walk.now.left c.in-Some.slot c.in-Some.ensures.next)
 
 pub returns-in-Some-clause-turns : goal.returns-in-Some-clause-turns
-returns-in-Some-clause-turns c key earlier w = ([], tt, did_none c.args.words.now.pass.now, w)
+returns-in-Some-clause-turns c key earlier w =
+    let p = c.args.words.now.pass.now in
+    ([], in_round_by [] p p tt tt (did_none p), did_none p, w)
 
 pub returns-in-Some-clause-spends : goal.returns-in-Some-clause-spends
 returns-in-Some-clause-spends c walked acts may = ([], did_none c.args.words.now.pass.now, (c.args.walk.now.left, may.0), λ _. may)
@@ -24,7 +27,7 @@ returns-in-None-clause-turns c key earlier w =
     let s = c.args.words.now in
     let n = c.stamp-number.result in
     let left = c.args.walk.now.left in
-    (ReadCounter n ∷ [], tt, c.stamp-number.ensures.did, closes_full (shape_of s.bank.now) s.o (table_id s.table) key n left earlier w (none-left left c.in-None.ensures.next))
+    (ReadCounter n ∷ [], in_round_by (ReadCounter n ∷ []) s.pass.now c.stamp-number.new.self.pass.now tt tt c.stamp-number.ensures.did, c.stamp-number.ensures.did, closes_full (shape_of s.bank.now) s.o (table_id s.table) key n left earlier w (none-left left c.in-None.ensures.next))
 
 pub returns-in-None-clause-spends : goal.returns-in-None-clause-spends
 returns-in-None-clause-spends c walked acts may =

@@ -2,7 +2,8 @@ use Rattle.std.proofs.Common.{◌≡◌, ◌≤◌, List, ◌∷◌, drop, ℕ, 
 use Rattle.ft_trace.specs.declared.Act.{Act}
 use Rattle.ft_bank.specs.Passes.{shape_of}
 use Rattle.ft_bank.specs.TableNames.{table_id}
-use Rattle.ft_search.specs.TableWords.{CanLoad, SamePlace}
+use Rattle.ft_search.specs.LookSteps.{CanLook}
+use Rattle.ft_search.specs.TableWords.{SamePlace}
 use Rattle.ft_search.specs.SearchCosts.{MayWalkOn, SpendsSearch}
 use Rattle.ft_search.specs.Rounds.{Walked, TurnsAfter}
 use Rattle.std.specs.Prelude.{None}
@@ -11,7 +12,7 @@ use Rattle.ft_search.proofs.rounds.search_walk.Given as goal
 abbrev pub invariant-walk : goal.invariant-walk
 invariant-walk l =
     record {
-      can : CanLoad l.words;
+      can : CanLook l.words;
       same : SamePlace l.fn.words l.words;
       mask : l.words.mask ≡ l.walk.mask;
       front : l.walk.left ≡ l.slot ∷ drop 1 l.walk.left;

@@ -24,7 +24,7 @@ use Rattle.ft_search.specs.KeyLooks.{AreLooks}
 use Rattle.ft_search.specs.Spots.{IsSpot}
 use Rattle.ft_search.proofs.Costing.{few_before}
 use Rattle.ft_search.proofs.FoundInContents.{bare_held, of_way}
-use Rattle.ft_search.proofs.Rounding.{looks_append, looks_did}
+use Rattle.ft_search.proofs.LoadedLooks.{looks_append, looks_did}
 use Rattle.ft_search.proofs.Running.{did_trans, did_log}
 use Rattle.ft_search.proofs.Spotting.{spot_is, knows_loaded, spot_loaded}
 use Rattle.ft_search.proofs.spots.seek_by.Goals as goal

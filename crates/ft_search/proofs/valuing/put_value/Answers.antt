@@ -1,4 +1,3 @@
-use Rattle.std.proofs.Common.{◌≡◌}
 use Rattle.ft_layout.specs.declared.slot.Stored.TheVariants.{Plain}
 use Rattle.ft_layout.specs.Words.{stored_kind, stored_payload}
 use Rattle.ft_trace.proofs.ValuePlaces.{plain_kind}

@@ -1,4 +1,4 @@
-use Rattle.std.proofs.Common.{◌≡◌, ◌≢◌, ℕ, ◌+◌, ◌<◌, None, false, true≢false, refl, sym, ap, ◌∙◌, subst, arith, get_or-set_other}
+use Rattle.std.proofs.Common.{◌≡◌, ◌≢◌, ℕ, ◌+◌, ◌<◌, None, false, true≢false, sym, ap, ◌∙◌, subst, arith, get_or-set_other}
 use Rattle.std.specs.Prelude.{slice_set}
 use Rattle.ft_layout.specs.declared.slot.Stored.TheVariants.{Plain}
 use Rattle.ft_layout.specs.Words.{stored_kind, stored_payload}
@@ -10,7 +10,7 @@ use Rattle.ft_trace.specs.declared.View.{View}
 use Rattle.ft_trace.specs.Acts.{has_committed, mem}
 use Rattle.ft_trace.specs.Addresses.{class_of, slots}
 use Rattle.ft_trace.specs.Boxes.{named_in_container, references_held, StoresTaken}
-use Rattle.ft_trace.specs.ContainerStates.{changes, kind_in}
+use Rattle.ft_trace.specs.ContainerStates.{kind_in}
 use Rattle.ft_trace.specs.EntryWrites.{value_puts}
 use Rattle.ft_trace.specs.Holds.{held_words, held_unboxed, known_state}
 use Rattle.ft_trace.specs.Kinds.{rows}
@@ -22,7 +22,7 @@ use Rattle.ft_bank.specs.BoxSteps.{kind_read, payload_read, HasReferenceFor}
 use Rattle.ft_bank.specs.Passes.{shape_of, view}
 use Rattle.ft_bank.specs.TableNames.{table_id}
 use Rattle.ft_bank.specs.WriteSteps.{MayHave}
-use Rattle.ft_search.specs.OneEntryWrites.{KnowsEntries, raised_at, with_value_at}
+use Rattle.ft_search.specs.OneEntryWrites.{KnowsEntries, with_value_at}
 use Rattle.ft_search.proofs.Changing.{Changing, kind_is}
 use Rattle.ft_search.proofs.NamedEntries.{entry_named, box_named}
 use Rattle.ft_search.proofs.OtherValues.{ValueLaws, values_here}

@@ -1,61 +1,59 @@
-use Rattle.std.proofs.Common.{◌≡◌, ℕ, List, map, sym, ap, ◌∙◌, subst}
+use Rattle.std.proofs.Common.{◌≡◌, ℕ, List, [], map, refl, sym, ap, ◌∙◌, subst, arith}
+use Rattle.std.proofs.lemmas.List.{nil_from_length}
 use Rattle.std.specs.Prelude.{Option, Some}
 use Rattle.ft_bank.specs.declared.sections.OpenSection.{OpenSection}
 use Rattle.ft_bank.specs.Passes.{view}
-use Rattle.ft_bank.specs.PassSections.{Stack, stack_of, noted_in, suspended}
-use Rattle.ft_section.specs.Locking.{LetGo, MayLetGo, waiting, marks_more, first_mark}
+use Rattle.ft_bank.specs.PassSections.{Stack, stack_of, suspended}
+use Rattle.ft_section.specs.Locking.{OnlyLocked, marks_more, first_mark}
 use Rattle.ft_section.specs.Ready.{InCall, AreSuspended}
-use Rattle.ft_section.proofs.Waits.{may_sweep, waits}
+use Rattle.ft_section.proofs.Releases.{only_same}
+use Rattle.ft_section.proofs.Resumes.{push_some}
 use Rattle.ft_trace.specs.declared.View.{View}
 use Rattle.ft_trace.specs.Owners.{SameOwners}
+use Rattle.ft_trace.proofs.Owning.{same_owners}
 use Rattle.ft_section.proofs.calls.wait.Goals as goal
 
-pub let_all_go-requires : goal.let_all_go-requires
-let_all_go-requires c =
-    let p = c.args.pass.now in
-    let s = stack_of p in
-    let q = c.put_mark.new.self in
-    let more = c.more_marks.ensures ∙ ap marks_more c.mark-mark.ensures in
-    let sections : c.suspend.new.self ≡ map (suspended (marks_more s.mark)) s.sections =
-    c.suspend.ensures ∙ (ap (λ (m : ℕ). map (suspended m) c.copied-after.result) more ∙ ap (map (suspended (marks_more s.mark))) (c.copied-after.ensures ∙ c.sections-2.ensures)) in
-    let put = ap (λ (x : Stack). x.sections) (c.put_mark.ensures.stack ∙ ap (λ (x : Stack). record x { mark = Some c.first_owner.result }) c.put_sections.ensures.stack) ∙ sections in
-    let slice = c.as_slice.ensures.«open» ∙ (c.copied-before.ensures ∙ c.sections.ensures) in
-    subst (λ (xs : List OpenSection). MayLetGo (λ o. noted_in o xs) c.args.bank.now q) (sym slice)
-    (may_sweep c.args.bank.now p q (marks_more s.mark) c.requires.inside (c.put_mark.ensures.view.0 ∙ c.put_sections.ensures.view.0) (c.put_mark.ensures.view.1 ∙ c.put_sections.ensures.view.1) put)
+pub returns-then-depth-eq0-clause-locked : goal.returns-then-depth-eq0-clause-locked
+returns-then-depth-eq0-clause-locked c =
+    subst (OnlyLocked (view c.args.pass.now)) (sym c.put_mark.ensures.view.1) (only_same (view c.args.pass.now))
 
-pub returns-clause-stack : goal.returns-clause-stack
-returns-clause-stack c =
-    let p = c.args.pass.now in
-    let s = stack_of p in
-    let more = c.more_marks.ensures ∙ ap marks_more c.mark-mark.ensures in
-    let sections : c.suspend.new.self ≡ map (suspended (marks_more s.mark)) s.sections =
-    c.suspend.ensures ∙ (ap (λ (m : ℕ). map (suspended m) c.copied-after.result) more ∙ ap (map (suspended (marks_more s.mark))) (c.copied-after.ensures ∙ c.sections-2.ensures)) in
+pub returns-then-depth-eq0-clause-owners : goal.returns-then-depth-eq0-clause-owners
+returns-then-depth-eq0-clause-owners c = subst (SameOwners (view c.args.pass.now)) (sym c.put_mark.ensures.view.1) (same_owners (view c.args.pass.now))
+
+pub returns-then-depth-eq0-clause-stack : goal.returns-then-depth-eq0-clause-stack
+returns-then-depth-eq0-clause-stack c =
+    let s = stack_of c.args.pass.now in
+    let depth = c.depth-depth.ensures.depth in
+    let none : s.sections ≡ [] = sym c.sections.ensures ∙ nil_from_length c.sections.result.now (omega (arith, depth)) in
     let first : c.first_owner.result ≡ first_mark s.mark c.args.owner = c.first_owner.ensures ∙ ap (λ (m : Option ℕ). first_mark m c.args.owner) c.mark-mark.ensures in
-    c.let_all_go.ensures.stack.1 ∙ (c.put_mark.ensures.stack ∙ (ap (λ (x : Stack). record x { mark = Some c.first_owner.result }) c.put_sections.ensures.stack
-    ∙ (ap (λ (xs : List OpenSection). record { sections = xs; own = s.own; mark = Some c.first_owner.result }) sections
-    ∙ ap (λ (q : ℕ). record { sections = map (suspended (marks_more s.mark)) s.sections; own = s.own; mark = Some q }) first)))
+    c.put_mark.ensures.stack ∙ (ap (λ (q : ℕ). record s { mark = Some q }) first
+    ∙ ap (λ (xs : List OpenSection). record { sections = xs; own = s.own; mark = Some (first_mark s.mark c.args.owner) })
+    (none ∙ sym (ap (map (suspended (marks_more s.mark))) none)))
 
--- what holds of the pass in the end
-waits_here : (c : goal.After-let_all_go) → InCall (view c.let_all_go.new.pass) (waiting (stack_of c.args.pass.now) c.args.owner) × AreSuspended (waiting (stack_of c.args.pass.now) c.args.owner).sections
-waits_here c =
+pub returns-then-depth-eq0-clause-inside : goal.returns-then-depth-eq0-clause-inside
+returns-then-depth-eq0-clause-inside c =
     let p = c.args.pass.now in
+    let q = c.put_mark.new.self in
     let s = stack_of p in
-    let w = view c.let_all_go.new.pass in
-    let slice = c.as_slice.ensures.«open» ∙ (c.copied-before.ensures ∙ c.sections.ensures) in
-    let same = c.put_mark.ensures.view.1 ∙ c.put_sections.ensures.view.1 in
-    let go = subst (λ (v : View). LetGo (λ o. noted_in o s.sections) v w) same (subst (λ (xs : List OpenSection). LetGo (λ o. noted_in o xs) (view c.put_mark.new.self) w) slice c.let_all_go.ensures.go) in
-    waits (view p) w s c.args.owner c.requires.inside.1 c.requires.marked go
+    let i = c.requires.inside.1 in
+    let depth = c.depth-depth.ensures.depth in
+    let none : s.sections ≡ [] = sym c.sections.ensures ∙ nil_from_length c.sections.result.now (omega (arith, depth)) in
+    let put : Stack = record s { mark = Some c.first_owner.result } in
+    let made : InCall (view p) put = record {
+      still = i.still;
+      locks = i.locks;
+      low = i.low;
+      sections = i.sections;
+      begun = i.begun;
+      marked = λ r e outer top cut. absurd (push_some outer top (sym cut ∙ none));
+    } in
+    let same = c.put_mark.ensures.view.1 in (
+      (c.put_mark.ensures.view.0 ∙ c.requires.inside.0.0, ap (λ (v : View). v.shape) same ∙ c.requires.inside.0.1),
+      subst (InCall (view q)) (sym c.put_mark.ensures.stack) (subst (λ (v : View). InCall v put) (sym same) made),
+    )
 
-pub returns-clause-inside : goal.returns-clause-inside
-returns-clause-inside c =
-    let p = c.args.pass.now in
-    let table = c.let_all_go.ensures.stack.0 ∙ (c.put_mark.ensures.view.0 ∙ (c.put_sections.ensures.view.0 ∙ c.requires.inside.0.0)) in
-    let shape = c.let_all_go.ensures.go.locked.shape ∙ (ap (λ (v : View). v.shape) (c.put_mark.ensures.view.1 ∙ c.put_sections.ensures.view.1) ∙ c.requires.inside.0.1) in
-    ((table, shape), subst (InCall (view c.let_all_go.new.pass)) (sym (returns-clause-stack c)) (waits_here c).0)
-
-pub returns-clause-suspended : goal.returns-clause-suspended
-returns-clause-suspended c = subst (λ (x : Stack). AreSuspended x.sections) (sym (returns-clause-stack c)) (waits_here c).1
-
-pub returns-clause-owners : goal.returns-clause-owners
-returns-clause-owners c =
-    subst (λ (v : View). SameOwners v (view c.let_all_go.new.pass)) (c.put_mark.ensures.view.1 ∙ c.put_sections.ensures.view.1) c.let_all_go.ensures.go.owners
+pub returns-then-depth-eq0-clause-suspended : goal.returns-then-depth-eq0-clause-suspended
+returns-then-depth-eq0-clause-suspended c =
+    let depth = c.depth-depth.ensures.depth in
+    let none : (stack_of c.args.pass.now).sections ≡ [] = sym c.sections.ensures ∙ nil_from_length c.sections.result.now (omega (arith, depth)) in
+    subst AreSuspended (sym (ap (λ (x : Stack). x.sections) c.put_mark.ensures.stack ∙ none)) ((λ k d low. omega (arith, low)), λ o. refl)

@@ -4,7 +4,7 @@ use Rattle.ft_model.specs.declared.call.Call.TheVariants as call
 use Rattle.ft_model.specs.declared.call.SetCall.TheVariants as set
 use Rattle.ft_model.specs.declared.reply.Reply.TheVariants as reply
 use Rattle.ft_search.specs.KeyLooks.{EndsLook, IsLookOf}
-use Rattle.ft_search.proofs.Asking.{element_absent, element_here, answered_after, contended_after}
+use Rattle.ft_search.proofs.Asking.{element_absent, element_here, looked_after, contended_after}
 use Rattle.ft_search.proofs.Running.{did_log}
 use Rattle.ft_keys.specs.declared.walk.Way.TheVariants as way
 use Rattle.ft_search.proofs.Spending.{rounds_answered}
@@ -32,7 +32,7 @@ returns-in-Here-clause-looked c =
     let z = view c.answer_look.new.pass in
     let called = call.Set c.args.s (set.Has c.args.key) in
     let m = c.in-Here.ensures.looked in
-    let a = answered_after (EndsLook c.args.s c.in-Here.number) v w z called (reply.Truth true) c.in-Here.number m.0 c.look_up.ensures.keeps
+    let a = looked_after (EndsLook c.args.s c.in-Here.number) v w z called (reply.Truth true) c.in-Here.number m.0 c.look_up.ensures.keeps
     (did_log m.0 c.args.pass.now c.look_up.new.pass m.2) m.3.1 c.answer_look.ensures.did.1
     c.args.pass.now.settled c.answer_look.new.pass.possible m.3.2 in
     subst (λ r. IsLookOf c.args.s c.args.key called v z r) (sym c.answer_look.ensures.done) (a.0, refl, a.1)
@@ -44,7 +44,7 @@ returns-in-Absent-clause-looked c =
     let z = view c.answer_look-in-Absent.new.pass in
     let called = call.Set c.args.s (set.Has c.args.key) in
     let m = c.in-Absent.ensures.looked in
-    let a = answered_after (EndsLook c.args.s c.in-Absent.number) v w z called (reply.Truth false) c.in-Absent.number m.0 c.look_up.ensures.keeps
+    let a = looked_after (EndsLook c.args.s c.in-Absent.number) v w z called (reply.Truth false) c.in-Absent.number m.0 c.look_up.ensures.keeps
     (did_log m.0 c.args.pass.now c.look_up.new.pass m.2) m.3.1 c.answer_look-in-Absent.ensures.did.1
     c.args.pass.now.settled c.answer_look-in-Absent.new.pass.possible m.3.2 in
     subst (λ r. IsLookOf c.args.s c.args.key called v z r) (sym c.answer_look-in-Absent.ensures.done) (a.0, refl, a.1)

@@ -1,6 +1,7 @@
 use Rattle.std.proofs.Common.{◌≡◌, ℕ, suc, ◌+◌, ◌*◌, ◌<◌, refl, sym, ap, ◌∙◌, subst, arith}
 use Rattle.std.specs.Prelude.{slice_index}
 use Rattle.ft_model.specs.declared.script.Kind.{Kind}
+use Rattle.ft_trace.specs.declared.Shape.{Shape}
 use Rattle.ft_trace.specs.Addresses.{class_of, size}
 use Rattle.ft_trace.specs.Boxes.{value_at, names_box, names_box_at, references_held}
 use Rattle.ft_trace.specs.ContainerStates.{kind_in}
@@ -13,7 +14,9 @@ use Rattle.ft_bank.specs.TableNames.{table_id}
 use Rattle.ft_bank.proofs.BoxedSteps.{made_same}
 use Rattle.ft_bank.proofs.DoneBoxes.{settled_then, stays_settled_same}
 use Rattle.ft_bank.proofs.KnownAfterWrites.{boxed_then, loaded_boxed}
+use Rattle.ft_boxes.proofs.Steps.{keeps_self}
 use Rattle.ft_search.proofs.Calling.{loaded_same}
+use Rattle.ft_search.proofs.Keeping.{keeps_fewer}
 use Rattle.ft_search.proofs.Puts.{table_class}
 use Rattle.ft_table_calls.proofs.Dropped.{hand_same, left_held, left_then}
 use Rattle.ft_table_calls.proofs.dropping.drop_values.Goals as goal
@@ -22,7 +25,7 @@ use Rattle.ft_table_calls.proofs.dropping.drop_values.Goals.{In-loop-row}
 pub loop-row-init : goal.loop-row-init
 loop-row-init c =
     let v = view c.args.pass.now in
-    record { pass = c.requires.pass; stack = refl; only = loaded_boxed v v (loaded_same v); made = stays_settled_same v v (made_same v); left = λ b. omega arith }
+    record { pass = c.requires.pass; stack = refl; only = loaded_boxed v v (loaded_same v); made = stays_settled_same v v (made_same v); values = keeps_self v; left = λ b. omega arith }
 
 -- the value of the row lies inside the table
 row_low : (c : In-loop-row) → c.loop-row.row < rows (kind_in (shape_of c.args.bank.now).starts c.args.o) (class_of (table_id c.args.table))
@@ -112,6 +115,12 @@ loop-row-preserved c =
       stack = e.stack ∙ i.stack;
       only = boxed_then u v w i.only e.only;
       made = settled_then u v w i.made e.made;
+      values = keeps_fewer u v w (sym e.only.work.pass.shape)
+          (λ b.
+          let less = e.references b in
+          let now : references_held w.shape b w.log ≡ references_held k b w.log = ap (λ (z : Shape). references_held z b w.log) e.pass.1 in
+          let was : references_held v.shape b v.log ≡ references_held k b v.log = ap (λ (z : Shape). references_held z b v.log) i.pass.1 in
+          omega (arith, less, now, was)) i.values e.values;
       left = λ b.
           ap (λ (n : ℕ). references_held k b w.log + sum_to (names_box_at b kd class hand) n) more
           ∙ left_then kd class hand (λ b. references_held k b u.log) (λ b. references_held k b v.log) row (rows kd class) (row_low d) c.requires.held i.left (λ b. references_held k b w.log)
@@ -123,6 +132,9 @@ returns-clause-only c = c.loop-row.invariant.only
 
 pub returns-clause-made : goal.returns-clause-made
 returns-clause-made c = c.loop-row.invariant.made
+
+pub returns-clause-values : goal.returns-clause-values
+returns-clause-values c = c.loop-row.invariant.values
 
 pub returns-clause-references : goal.returns-clause-references
 returns-clause-references c b =

@@ -1,5 +1,9 @@
-use Rattle.std.proofs.Common.{ℕ, ◌*◌, List, length, [], refl, sym, ap, ◌∙◌, subst, arith}
+use Rattle.std.proofs.Common.{◌≡◌, ℕ, ◌*◌, List, length, [], refl, sym, ap, ◌∙◌, subst, arith}
+use Rattle.std.proofs.lemmas.List.{length-map}
 use Rattle.std.proofs.lemmas.Nat.{mul-le}
+use Rattle.ft_model.specs.Worlds.{start_as}
+use Rattle.ft_layout.specs.Starts.{box_start, heap_start}
+use Rattle.ft_trace.specs.Addresses.{container_count}
 use Rattle.ft_trace.specs.Traces.{IsReachable}
 use Rattle.ft_trace.proofs.Addresses.{opening_long}
 use Rattle.ft_bank.specs.Shapes.{plan}
@@ -26,6 +30,12 @@ invariant_of-pass c =
       possible = ∣ subst IsReachable (sym (ap (λ m. m.0) e)) ([], 0, (fits_of c.args.shape c.requires, refl)) ∣₁;
     }
 
+-- how many containers there are
+count : (c : goal.After-heap_start) → c.len-containers.result ≡ container_count (plan c.args.shape)
+count c =
+    let many = length-map c.args.shape.kinds.items start_as in
+    omega (arith, many, c.len-containers.ensures, c.args.shape.kinds.ok.0)
+
 pub invariant_of-bank : goal.invariant_of-bank
 invariant_of-bank c = record {
   keyed = c.in_ok-table.ensures.5;
@@ -34,6 +44,9 @@ invariant_of-bank c = record {
   fits = c.requires;
   starting = c.in_ok-starts.ensures;
   sizing = c.in_ok-sizes.ensures;
+  beginning = c.heap_start-heaps.ensures.is ∙ ap (λ (n : ℕ). heap_start n c.args.shape.heap 0) (count c);
+  boxing = c.box_start-boxes.ensures ∙ ap (λ (n : ℕ). box_start n c.args.shape.heap 0 0) (count c);
+  heaping = let one = c.heap_start.ensures.is in let none = c.heap_start-heaps.ensures.is in omega (arith, one, none);
   low = c.in_ok-words.ensures.low;
   few = let p = mul-le c.args.shape.passes c.args.shape.calls 64 4294967296 c.requires.passes.1 (omega (arith, c.requires.calls)) in omega (arith, p);
 }

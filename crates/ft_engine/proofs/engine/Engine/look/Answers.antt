@@ -1,5 +1,6 @@
 use Rattle.std.proofs.Common.{◌∙◌, sym, arith, subst, true≢false}
 use Rattle.ft_engine.specs.MadeCalls.{IsLookFor}
+use Rattle.ft_engine.proofs.AtRest.{few_of, settled_of}
 use Rattle.ft_engine.proofs.Keeping.{no_answer_idle}
 use Rattle.ft_engine.proofs.MadeCalls.{look_for, some_left}
 use Rattle.ft_engine.proofs.engine.Engine.look.Goals as goal
@@ -7,6 +8,12 @@ use Rattle.ft_engine.proofs.engine.Engine.look.Goals.{After-take_look}
 
 pub look_call-requires-clause-names : goal.look_call-requires-clause-names
 look_call-requires-clause-names c = (c.args.caller.now.cursors.items, c.requires.may.names (no_answer_idle c.args.caller.now.flight c.requires.idle))
+
+pub look_call-requires-clause-settled : goal.look_call-requires-clause-settled
+look_call-requires-clause-settled c = settled_of c.args.self.now c.args.caller.now c.requires.caller
+
+pub look_call-requires-clause-few : goal.look_call-requires-clause-few
+look_call-requires-clause-few c = few_of c.args.self.now c.args.caller.now c.requires.caller
 
 pub look_call-requires-clause-left : goal.look_call-requires-clause-left
 look_call-requires-clause-left c = some_left c.args.self.now c.args.caller.now c.args.call.now c.requires.caller c.requires.idle c.requires.may

@@ -82,11 +82,11 @@ raw_at_place l mask place word = entry_after_header l mask place word ∙ ap (sl
 pub overflow_add-at-then-not-self : goal.overflow_add-at-then-not-self
 overflow_add-at-then-not-self c = let i = inside c.args.self.now c.args.place c.args.word c.requires.can c.requires.place.0 c.requires.place.1 in omega (arith, i)
 
-pub read_table-requires-clause-word : goal.read_table-requires-clause-word
-read_table-requires-clause-word c = inside_table c.args.self.now c.args.place c.args.word c.requires.can c.requires.place.0 c.requires.place.1
+pub read_word-requires-clause-word : goal.read_word-requires-clause-word
+read_word-requires-clause-word c = inside_table c.args.self.now c.args.place c.args.word c.requires.can c.requires.place.0 c.requires.place.1
 
-pub read_table-requires-2-clause-word : goal.read_table-requires-2-clause-word
-read_table-requires-2-clause-word c = inside_table c.args.self.now c.args.place c.args.word c.requires.can c.requires.place.0 c.requires.place.1
+pub read_word-requires-2-clause-word : goal.read_word-requires-2-clause-word
+read_word-requires-2-clause-word c = inside_table c.args.self.now c.args.place c.args.word c.requires.can c.requires.place.0 c.requires.place.1
 
 -- the word as it stands
 pub returns-then-not-self-clause-gave : goal.returns-then-not-self-clause-gave
@@ -95,23 +95,25 @@ returns-then-not-self-clause-gave c =
     let can = c.requires.can in
     let k = shape_of s.bank.now in
     let v = view s.pass.now in
-    let w = view c.read_table.new.pass in
-    let l = loaded_by (ReadTable (table_id s.old) (8 * c.args.place + s.old_mask + 1 + c.args.word) c.read_table.result) v w tt c.read_table.ensures.did.1 in
+    let w = view c.read_word.new.pass in
+    let l = loaded_by (ReadTable (table_id s.old) (8 * c.args.place + s.old_mask + 1 + c.args.word) c.read_word.result) v w tt c.read_word.ensures.did.1 in
     let raw : s.in_place ≡ false = search (rules, c.if-not-self.true) in
     record {
       bank = refl;
       pass = refl;
-      stack = c.read_table.ensures.did.2;
+      stack = c.read_word.ensures.did.2;
       o = refl;
       old = refl;
       old_mask = refl;
+      old_start = refl;
+      start = refl;
       table = refl;
       mask = refl;
       in_place = refl;
       only = loaded_filled v w l;
       values = keeps_loads v w s.pass.now.possible l;
       tells = tt;
-      tells_old = c.read_table.ensures.held s.o can.container can.locked can.old_root
+      tells_old = c.read_word.ensures.held s.o can.container can.locked can.old_root
           ∙ (sym (raw_at_place (held_words s.o v).table s.old_mask c.args.place c.args.word)
           ∙ (λ d. entry_word s.old_mask (0 ∷ 0 ∷ (cond (sym raw d) (held_unboxed s.o v) (held_words s.o v)).table) c.args.place c.args.word));
       left = fresh_same s v w l;
@@ -124,23 +126,25 @@ returns-clause-gave c =
     let can = c.requires.can in
     let k = shape_of s.bank.now in
     let v = view s.pass.now in
-    let w = view c.read_table-2.new.pass in
-    let l = loaded_by (ReadTable (table_id s.old) (8 * c.args.place + s.old_mask + 1 + c.args.word) c.read_table-2.result) v w tt c.read_table-2.ensures.did.1 in
+    let w = view c.read_word-2.new.pass in
+    let l = loaded_by (ReadTable (table_id s.old) (8 * c.args.place + s.old_mask + 1 + c.args.word) c.read_word-2.result) v w tt c.read_word-2.ensures.did.1 in
     let read : s.in_place ≡ true = search (rules, c.if-not-self.false) in
     record {
       bank = refl;
       pass = refl;
-      stack = c.read_table-2.ensures.did.2;
+      stack = c.read_word-2.ensures.did.2;
       o = refl;
       old = refl;
       old_mask = refl;
+      old_start = refl;
+      start = refl;
       table = refl;
       mask = refl;
       in_place = refl;
       only = loaded_filled v w l;
       values = keeps_loads v w s.pass.now.possible l;
       tells = tt;
-      tells_old = c.read_table-2.ensures.held s.o can.container can.locked can.old_root
+      tells_old = c.read_word-2.ensures.held s.o can.container can.locked can.old_root
           ∙ (word_stands k s.o s.old s.old_mask c.args.place c.args.word v can.pass.1 can.keyed can.old_in can.old_mask can.old_root c.requires.place.1 c.if-word-eq-VALUE_KIND.false c.if-word-eq-VALUE.false
           ∙ (λ d. entry_word s.old_mask (0 ∷ 0 ∷ (cond (sym read d) (held_unboxed s.o v) (held_words s.o v)).table) c.args.place c.args.word));
       left = fresh_same s v w l;

@@ -25,7 +25,7 @@ use Rattle.ft_search.specs.KeyLooks.{AreLooks}
 use Rattle.ft_search.specs.SearchCosts.{index_reads}
 use Rattle.ft_search.specs.TableWords.{access_act, known_words, read_words}
 use Rattle.ft_search.proofs.Costing.{entry_none, reads_append}
-use Rattle.ft_search.proofs.Rounding.{looks_append, looks_did}
+use Rattle.ft_search.proofs.LoadedLooks.{looks_append, looks_did}
 use Rattle.ft_search.proofs.Running.{did_trans, at_same}
 use Rattle.ft_search.proofs.SearchedReads.{known_there, stands_boxed, stands_past, stands_plain, way_keyed, word_at}
 use Rattle.ft_search.proofs.Unboxing.{reads_boxed}

@@ -11,7 +11,7 @@ use Rattle.ft_bank.specs.Passes.{shape_of, view}
 use Rattle.ft_search.specs.TableWords.{known_words, read_words}
 use Rattle.ft_search.proofs.Costing.{few_append}
 use Rattle.ft_search.proofs.Running.{did_trans}
-use Rattle.ft_search.proofs.Rounding.{looks_append, looks_did}
+use Rattle.ft_search.proofs.LoadedLooks.{looks_append, looks_did}
 use Rattle.ft_search.proofs.WordPlaces.{mask_is}
 use Rattle.ft_search.proofs.words.TableWords.read_held.Goals as goal
 

@@ -48,7 +48,7 @@ use Rattle.ft_search.proofs.Asking.{held_shown}
 use Rattle.ft_search.proofs.Lengths.{IsPlain, between_own}
 use Rattle.ft_search.proofs.Running.{did_trans}
 use Rattle.ft_search.proofs.LoadedLooks.{looks_append}
-use Rattle.ft_list.specs.Indexes.{item_named, IsItemNamed, ShowsNamed}
+use Rattle.ft_list.specs.Indexes.{item_named, IsItemNamed}
 use Rattle.ft_reads.specs.Reads.{Reads, ShowsRead}
 use Rattle.ft_list.proofs.Lists.{list_content}
 use Rattle.ft_list.proofs.ItemWordsPut.{at_words, list_few}
@@ -105,7 +105,7 @@ named_by k x index count found counts right kept is stands =
 
 -- ---- what `l[i]` replies
 
-get_replied : (stored : StoredWorld) (o : ℕ) (index : ℤ) (found : Option Value) → found ≡ item_named (list_of (state_at stored o).content) index → reply_in stored (call.List o (list.Get index)) ≡ item_reply found
+pub get_replied : (stored : StoredWorld) (o : ℕ) (index : ℤ) (found : Option Value) → found ≡ item_named (list_of (state_at stored o).content) index → reply_in stored (call.List o (list.Get index)) ≡ item_reply found
 get_replied stored o index found is = by (index_in (length items) index) ∙ ap item_reply (sym is)
   where
     items : List Value
@@ -115,56 +115,13 @@ get_replied stored o index found is = by (index_in (length items) index) ∙ ap 
     by None = refl
     by (Some at) = refl
 
-get_plain : (o : ℕ) (index : ℤ) (found : Option Value) → IsPlain (call.List o (list.Get index)) (item_reply found)
+pub get_plain : (o : ℕ) (index : ℤ) (found : Option Value) → IsPlain (call.List o (list.Get index)) (item_reply found)
 get_plain o index None = record { reads = refl; cursor = refl; adds = refl; memory = refl; replied = λ plain is. inr is; cause = λ stored log n. refl }
 get_plain o index (Some value) = record { reads = refl; cursor = refl; adds = refl; memory = refl; replied = λ plain is. inr is; cause = λ stored log n. refl }
 
--- ---- between two loads of the version
-
-abbrev pub between_acts : ℕ → ℕ → ℕ → List Act → ℕ → List Act
-between_acts o closed n part opened = Version o closed ∷ (ReadCounter n ∷ (part ++ Version o opened ∷ []))
-
-pub between_did : (o closed n : ℕ) (part : List Act) (opened : ℕ) (p q1 q2 q3 q4 : Pass) → DidAll (Version o opened ∷ []) p q1 → DidAll part q1 q2 → DidAll (ReadCounter n ∷ []) q2 q3 → DidAll (Version o closed ∷ []) q3 q4 → DidAll (between_acts o closed n part opened) p q4
-between_did o closed n part opened p q1 q2 q3 q4 a b c d =
-    did_trans (Version o closed ∷ []) (ReadCounter n ∷ (part ++ Version o opened ∷ [])) p q3 q4
-    (did_trans (ReadCounter n ∷ []) (part ++ Version o opened ∷ []) p q2 q3 (did_trans part (Version o opened ∷ []) p q1 q2 a b) c) d
-
-pub between_looks : (o closed n : ℕ) (part : List Act) (opened : ℕ) → AreLooks part → AreLooks (between_acts o closed n part opened)
-between_looks o closed n part opened looks = looks_append part (Version o opened ∷ []) looks tt
-
-pub between_stops : (o closed n : ℕ) (part : List Act) (opened : ℕ) → (opened % 2 ≢ 0) ⊎ (closed ≢ opened) → StopsAtVersion o opened closed (between_acts o closed n part opened)
-between_stops o closed n part opened why = record { newer = []; mid = ReadCounter n ∷ part; rest = []; is = refl; moved = why }
-
-pub between_shows : (k : Shape) (o closed n : ℕ) (part : List Act) (opened : ℕ) (index : ℤ) (found : Option Value) → closed ≡ opened → opened % 2 ≡ 0 → ShowsRead k o part (IsItemNamed k index found) → ShowsNamed k o index found n (between_acts o closed n part opened)
-between_shows k o closed n part opened index found same even shows = record {
-  mid = ReadCounter n ∷ part;
-  between = record { version = opened; even = even; newer = []; rest = []; is = λ d. Version o (same d) ∷ ((ReadCounter n ∷ part) ++ Version o opened ∷ []) };
-  counted = record { newer = []; rest = part; is = refl };
-  last = record {
-    version = opened;
-    even = even;
-    newer = [];
-    mid = [];
-    older = part;
-    rest = [];
-    is = λ d. Version o (same d) ∷ (ReadCounter n ∷ (part ++ Version o opened ∷ []));
-    none = refl;
-    none_between = refl;
-  };
-  shows = λ x box g. shows x box (read_older k o x box (ReadCounter n ∷ []) part g);
-}
-
-pub get_shown : (v w : View) (o : ℕ) (index : ℤ) (found : Option Value) (n : ℕ) (part : List Act) → MayAsk w o n → w.log ≡ part ++ v.log → kind_in w.shape.starts o ≡ kind.List → ShowsNamed w.shape o index found n part → IsShown w (call.List o (list.Get index)) (item_reply found) n
-get_shown v w o index found n part ask own is s =
-    let called = call.List o (list.Get index) in
-    let plain = get_plain o index found in
-    let looked : LookedAtOne w.shape called o (item_reply found) n w.log = record {
-      mid = s.mid;
-      between = between_own o s.mid part v.log w.log own s.between;
-      stamp = s.counted;
-      answers = λ x box stored is_kind stands agrees boxes. get_replied stored o index found (s.shows x box (agrees, boxes) (state_at stored o) (is_kind ∙ is) stands);
-    } in
-    looks_are_shown w called o (item_reply found) n ask plain.reads plain.cursor plain.cause (plain.replied (item_reply found) refl) looked
+pub get_kept : (found : Option Value) → item_reply found ≢ reply.Kept
+get_kept None e = absurd (cc)
+get_kept (Some value) e = absurd (cc)
 
 -- ---- under the lock
 

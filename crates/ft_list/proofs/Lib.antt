@@ -19,6 +19,7 @@ pub mod Indexes
 pub mod ValueLists
 pub mod ListMidst
 pub mod Scanning
+mod SightScans
 pub mod Turned
 pub mod EmptyWrites
 pub mod Both

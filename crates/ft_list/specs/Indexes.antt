@@ -9,19 +9,12 @@ use Rattle.ft_model.specs.declared.data.Value.TheVariants as value
 use Rattle.ft_model.specs.declared.script.Kind.TheVariants as kind
 use Rattle.ft_model.specs.Lists.{index_in}
 use Rattle.ft_model.specs.Worlds.{kind_of, list_of}
-use Rattle.ft_trace.specs.declared.Act.{Act}
-use Rattle.ft_trace.specs.declared.Act.TheVariants.{ReadCounter}
 use Rattle.ft_trace.specs.declared.Shape.{Shape}
 use Rattle.ft_trace.specs.declared.View.{View}
-use Rattle.ft_trace.specs.LoggedReads.{Among, Between}
 use Rattle.ft_trace.specs.Pictures.{ContainerWords, root_in, item_field, item_offset, Represents}
 use Rattle.ft_trace.specs.ContainerStates.{ContainerState}
-use Rattle.ft_bank.specs.LastLoads.{IsLastBetween}
 use Rattle.ft_section.specs.declared.answers.Look.{Look}
-use Rattle.ft_search.specs.Lengths.{StopsAtVersion, IsGlanceOf}
-use Rattle.ft_reads.specs.Reads.{ShowsRead}
-use Rattle.ft_list.specs.declared.gets.AtIndex.{AtIndex}
-use Rattle.ft_list.specs.declared.gets.AtIndex.TheVariants.{Found, Contended}
+use Rattle.ft_reads.specs.Sights.{IsSightOf}
 use Rattle.ft_list.specs.ItemLooks.{IsGetOf}
 
 -- the item that an index names among these, or none (Python manual, Sequence Types, note 3)
@@ -49,22 +42,9 @@ IsItemNamed k index found x =
     (kept : ContainerState) → kind_of kept.content ≡ kind.List → Represents k.texts x kept
     → found ≡ item_named (list_of kept.content) index
 
--- Between two loads of the version of the list that gave the same even number, the counter was loaded, and words that
--- show which item the index names; the counter was not loaded again.
-pub record ShowsNamed (k : Shape) (o : ℕ) (index : ℤ) (found : Option Value) (n : ℕ) (part : List Act) : Type 0 where
-  pub mid : List Act
-  pub between : Between part o mid
-  pub counted : Among (ReadCounter n) mid
-  pub last : IsLastBetween o n part
-  pub shows : ShowsRead k o mid (IsItemNamed k index found)
-
--- what these loads show of the list
-abbrev pub ShowsBetween : Shape → ℕ → ℤ → List Act → AtIndex → Type 0
-ShowsBetween k o index part (Found found n) = ShowsNamed k o index found n part
-ShowsBetween k o index part (Contended a b) = StopsAtVersion o a b part
-
 -- What `l[i]` answers without the lock: for an index that isn't negative it is stopped by the version of that very item
--- alone, or of the list where its root was read 0; for a negative one by the version of the list.
+-- alone, or of the list where its root was read 0; for a negative one by the version of the list. The count of the box that
+-- the item names may stop both.
 abbrev pub IsLookGetOf : ℕ → ℤ → View → View → Look → Type 0
 IsLookGetOf o (pos index) v w result = IsGetOf o index v w result
-IsLookGetOf o (negsuc below) v w result = IsGlanceOf o (call.List o (list.Get (negsuc below))) v w result
+IsLookGetOf o (negsuc below) v w result = IsSightOf o (call.List o (list.Get (negsuc below))) v w result

@@ -1,9 +1,8 @@
 //! `l[i]` at any index: without the lock, and under it.
-ghost use Rattle.std.specs.Prelude.{◌≡◌, ◌<◌, List, true, false};
+ghost use Rattle.std.specs.Prelude.{◌≡◌, ◌<◌, true, false};
 ghost use Rattle.ft_model.specs.declared.call.Call.TheVariants as call;
 ghost use Rattle.ft_model.specs.declared.call.ListCall.TheVariants as list;
 ghost use Rattle.ft_model.specs.declared.script.Kind.TheVariants as kind;
-ghost use Rattle.ft_trace.specs.declared.Act.{Act};
 ghost use Rattle.ft_trace.specs.Acts.{announces, has_lock};
 ghost use Rattle.ft_trace.specs.Addresses.{container_count};
 ghost use Rattle.ft_trace.specs.Holds.{held_unboxed, known_state};
@@ -14,35 +13,53 @@ ghost use Rattle.ft_bank.specs.Answered.{Answered};
 ghost use Rattle.ft_bank.specs.Passes.{shape_of, view, IsPassOf};
 ghost use Rattle.ft_bank.specs.PassSections.{stack_of};
 ghost use Rattle.ft_bank.specs.SameBoxes.{HoldsFew};
-ghost use Rattle.ft_bank.specs.Series.{DidAll};
-ghost use Rattle.ft_search.specs.Lengths.{IsGlanceOf};
-ghost use Rattle.ft_search.specs.KeyLooks.{AreLooks};
-ghost use Rattle.ft_list.specs.Indexes.{ShowsBetween, IsLookGetOf};
+ghost use Rattle.ft_reads.specs.Sights.{IsSightOf, SawOrStopped};
+ghost use Rattle.ft_list.specs.Indexes.{IsItemNamed, IsLookGetOf};
 
-use crate::gets::{AtIndex, look_item, reply_of};
+use crate::gets::{look_item, reply_of};
 use crate::reads::read_named;
+use crate::sights::see_named;
 use ft_bank::{Bank, Pass};
-use ft_model::{Call, ListCall, Reply};
-use ft_search::{answer_held, answer_look};
+use ft_model::{Call, ListCall, Reply, Value};
+use ft_reads::Window;
+use ft_search::{Stop, answer_held, answer_look};
 use ft_section::{Look, Object, Stamp};
 
-/// Reads the item that an index names, and the counter, between two loads of the version of the list.
-fn read_between(bank: &Bank, pass: &mut Pass, l: Object, index: i64) -> AtIndex
+/// Sees the item that an index names, and loads the counter, between two loads of the version of the list.
+///
+/// # Errors
+///
+/// As those of `see_row`.
+fn named_between(
+    bank: &Bank,
+    pass: &mut Pass,
+    l: Object,
+    index: i64,
+) -> Result<(Option<Value>, Window), Stop>
     requires pass { IsPassOf bank.now pass.old }
     requires container { l < container_count (shape_of bank.now) }
     requires list { kind_in (shape_of bank.now).starts l ≡ kind.List }
+    requires online { 0 < announces (view pass.old).log }
+    requires settled { IsSettled (view pass.old).log }
+    requires few { HoldsFew (view pass.old) }
     ensures pass { IsPassOf bank.now pass.new }
-    ensures looked { (part : List Act) × AreLooks part × DidAll part pass.old pass.new
-        × ShowsBetween (shape_of bank.now) l index part result }
+    ensures sections { stack_of pass.new ≡ stack_of pass.old }
+    ensures saw { SawOrStopped (shape_of bank.now) l (IsItemNamed (shape_of bank.now) index) result pass.old pass.new }
 {
     let opened = bank.seq(pass, l);
-    let found = read_named(bank, pass, l, index);
-    let number = bank.stamp(pass);
-    let closed = bank.seq(pass, l);
-    if closed != opened || opened % 2 != 0 {
-        return AtIndex::Contended(opened, closed);
+    match see_named(bank, pass, l, opened, index) {
+        Ok(found) => {
+            let number = bank.stamp(pass);
+            let closed = bank.seq(pass, l);
+            let window = Window {
+                opened,
+                number,
+                closed,
+            };
+            Ok((found, window))
+        }
+        Err(stop) => Err(stop),
     }
-    AtIndex::Found(found, number)
 }
 
 /// `l[i]` without the lock, by the version of the list.
@@ -51,19 +68,25 @@ fn look_between(bank: &Bank, pass: &mut Pass, l: Object, index: i64) -> Look
     requires container { l < container_count (shape_of bank.now) }
     requires list { kind_in (shape_of bank.now).starts l ≡ kind.List }
     requires left { 0 < (view pass.old).left }
+    requires online { 0 < announces (view pass.old).log }
+    requires settled { IsSettled (view pass.old).log }
+    requires few { HoldsFew (view pass.old) }
     ensures pass { IsPassOf bank.now pass.new }
     ensures sections { stack_of pass.new ≡ stack_of pass.old }
-    ensures looked { IsGlanceOf l (call.List l (list.Get index)) (view pass.old) (view pass.new) result }
+    ensures looked { IsSightOf l (call.List l (list.Get index)) (view pass.old) (view pass.new) result }
 {
-    match read_between(bank, pass, l, index) {
-        AtIndex::Found(found, number) => {
+    match named_between(bank, pass, l, index) {
+        Ok((found, window)) => {
+            if window.has_moved() {
+                return Look::Contended(window.opened, window.closed);
+            }
             let call = Call::List {
                 container: l,
                 call: ListCall::Get { index },
             };
-            answer_look(bank, pass, &call, reply_of(found), number)
+            answer_look(bank, pass, &call, reply_of(found), window.number)
         }
-        AtIndex::Contended(first, second) => Look::Contended(first, second),
+        Err(stop) => Look::Contended(stop.first, stop.second),
     }
 }
 

@@ -31,6 +31,7 @@ mod rooting;
 mod scans;
 mod searches;
 mod sharing;
+mod sights;
 mod tries;
 mod turning;
 mod values;

@@ -2,6 +2,10 @@
 //! version, copies and clears.
 #![tactic(auto)]
 
+mod floors;
+mod sights;
 mod window;
 
+pub use crate::floors::floor_values_stand;
+pub use crate::sights::see_row;
 pub use crate::window::Window;

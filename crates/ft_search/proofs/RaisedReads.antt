@@ -1,8 +1,9 @@
 -- A box that is raised, read and dropped: what the pass holds and knows stays as it is.
 use Rattle.std.proofs.Common.{◌≡◌, ℕ, ◌%◌, ◌<◌, List, [], ◌∷◌, ◌++◌, refl, sym, ◌∙◌, subst, inl, inr, arith}
+use Rattle.std.specs.Prelude.{Err}
 use Rattle.ft_layout.specs.declared.slot.Ref.{Ref}
 use Rattle.ft_trace.specs.declared.Act.{Act}
-use Rattle.ft_trace.specs.declared.Act.TheVariants.{ReadTable}
+use Rattle.ft_trace.specs.declared.Act.TheVariants.{ReadTable, Version}
 use Rattle.ft_trace.specs.declared.Shape.{Shape}
 use Rattle.ft_trace.specs.declared.View.{View}
 use Rattle.ft_trace.specs.Boxes.{IsSettled}
@@ -20,8 +21,8 @@ use Rattle.ft_boxes.specs.References.{HoldsBox, HoldsOneMore, HoldsOneLess, Keep
 use Rattle.ft_boxes.specs.Raising.{RaisesBySteps, ShowsCause}
 use Rattle.ft_boxes.proofs.Heaps.{first_then, loaded_keeps}
 use Rattle.ft_search.specs.declared.raising.SeenBox.TheVariants as box
-use Rattle.ft_search.specs.LookSteps.{AreRoundSteps, IsCountMoved, OnlyLooked, SeesInBox}
-use Rattle.ft_search.proofs.LookSteps.{boxes_are_steps, round_append}
+use Rattle.ft_search.specs.LookSteps.{AreLookSteps, AreRoundSteps, IsCountMoved, OnlyLooked, SeesBoxOf, SeesInBox}
+use Rattle.ft_search.proofs.LookSteps.{boxes_are_steps, round_append, steps_append}
 use Rattle.ft_search.proofs.Running.{did_trans}
 
 -- ---- a reference that is held through loads
@@ -96,6 +97,25 @@ module _ (t at opened again payload : ℕ) (same : again ≡ opened) (even : ope
         part ++ first,
         round_append part first (boxes_are_steps part raise.1).0 (tt, tt),
         did_trans part first p q r loaded raise.2,
+        inr (even, part, raise.1, subst (λ (n : ℕ). IsCountMoved n x y part) is (moves part raise.3), refl),
+      )
+
+-- the same after the second load of a container's version
+module _ (o opened again payload : ℕ) (same : again ≡ opened) (even : opened % 2 ≡ 0) (p q : Pass) (load : DidAll (Version o again ∷ []) p q) where
+  abbrev seq : List Act
+  seq = Version o opened ∷ []
+
+  pub seq_loaded : DidAll (Version o opened ∷ []) p q
+  seq_loaded = subst (λ (n : ℕ). DidAll (Version o n ∷ []) p q) same load
+
+  pub stop_shown : (b : Ref) (r : Pass) (result : Raised) (x y : ℕ) → box_id b ≡ payload → RaisesBySteps b q r result
+      → ((part : List Act) → ShowsCause b result part → IsCountMoved (box_id b) x y part)
+      → (acts : List Act) × AreLookSteps acts × DidAll acts p r × SeesBoxOf o opened payload acts (Err (record { first = x; second = y }))
+  stop_shown b r result x y is raise moves =
+      let part = raise.0 in (
+        part ++ seq,
+        steps_append part seq (boxes_are_steps part raise.1).0.0 tt,
+        did_trans part seq p q r seq_loaded raise.2,
         inr (even, part, raise.1, subst (λ (n : ℕ). IsCountMoved n x y part) is (moves part raise.3), refl),
       )
 

@@ -1,12 +1,12 @@
 -- The steps of a look-up without the lock: loads, and those that raise and drop the count of a box that it reads. (PEP 703,
 -- "Optimistically avoiding locking")
-use Rattle.std.specs.Prelude.{◌≡◌, ◌≢◌, ◌⊎◌, ℕ, suc, ◌%◌, Bool, true, false, List, [], ◌∷◌, ◌++◌}
+use Rattle.std.specs.Prelude.{◌≡◌, ◌≢◌, ◌⊎◌, ℕ, suc, ◌%◌, Bool, true, false, List, [], ◌∷◌, ◌++◌, Result, Ok, Err}
 use Rattle.ft_layout.specs.Starts.{kind_word, payload_word, shared_word}
 use Rattle.ft_trace.specs.declared.Act.{Act}
 use Rattle.ft_trace.specs.declared.Act.TheVariants.{ReadBlock, ReadRoot, ReadTable, ReadCounter, Version, ReadBox, RaiseLocal, DropLocal, ClearLocal, MergeCounts, RaiseShared, DropShared, GivePlace}
 use Rattle.ft_trace.specs.declared.View.{View}
 use Rattle.ft_trace.specs.Boxes.{IsSettled}
-use Rattle.ft_trace.specs.BoxWords.{dead_word}
+use Rattle.ft_trace.specs.BoxWords.{box_kind, dead_word}
 use Rattle.ft_trace.specs.ContainerStates.{kind_in}
 use Rattle.ft_trace.specs.Kinds.{IsKeyed}
 use Rattle.ft_trace.specs.LoggedLookUps.{Online, ReadsNoRoot}
@@ -20,6 +20,7 @@ use Rattle.ft_boxes.specs.Counting.{AreBoxSteps}
 use Rattle.ft_boxes.specs.References.{KeepsValues}
 use Rattle.ft_search.specs.declared.raising.SeenBox.{SeenBox}
 use Rattle.ft_search.specs.declared.raising.SeenBox.TheVariants as seen
+use Rattle.ft_search.specs.declared.sights.Stop.{Stop}
 use Rattle.ft_search.specs.declared.words.TableWords.{TableWords}
 use Rattle.ft_search.specs.TableWords.{CanLoad}
 
@@ -109,3 +110,22 @@ SeesInBox t at opened box acts (seen.Stopped a b) =
     ((a ≡ opened) × ((a % 2 ≢ 0) ⊎ (b ≢ a)) × (acts ≡ ReadTable t at b ∷ []))
     ⊎ ((opened % 2 ≡ 0) × (raised : List Act) × AreBoxSteps raised × IsCountMoved box a b raised
     × (acts ≡ raised ++ ReadTable t at opened ∷ []))
+
+-- What was seen of a value whose words were read to name a box, after a load of the version of the container o, which gave
+-- `opened`: it gave that once more, and was even; then the box was raised, its words read, and the reference dropped. Or the
+-- version had moved, or the count of the box.
+abbrev pub SeesBoxOf : ℕ → ℕ → ℕ → List Act → Result (ℕ × ℕ) Stop → Type 0
+SeesBoxOf o opened box acts (Ok found) =
+    (opened % 2 ≡ 0) × (raised dropped : List Act) × AreBoxSteps raised × AreBoxSteps dropped
+    × (acts ≡ dropped ++ ReadBox box payload_word found.1 ∷ (ReadBox box kind_word found.0
+    ∷ (raised ++ Version o opened ∷ [])))
+SeesBoxOf o opened box acts (Err stop) =
+    ((stop.first ≡ opened) × ((opened % 2 ≢ 0) ⊎ (stop.second ≢ opened)) × (acts ≡ Version o stop.second ∷ []))
+    ⊎ ((opened % 2 ≡ 0) × (raised : List Act) × AreBoxSteps raised × IsCountMoved box stop.first stop.second raised
+    × (acts ≡ raised ++ Version o opened ∷ []))
+
+-- What was seen of a value that has these words, after such a load: what stands in place, or else in the box.
+abbrev pub SeesThrough : ℕ → ℕ → ℕ → ℕ → List Act → Result (ℕ × ℕ) Stop → Type 0
+SeesThrough o opened kind payload acts result =
+    (kind ≡ box_kind → SeesBoxOf o opened payload acts result)
+    × (kind ≢ box_kind → (acts ≡ []) × (result ≡ Ok (kind, payload)))

@@ -21,11 +21,11 @@ use ft_bank::{Bank, Pass, Table};
 use ft_boxes::{Held, Raised, raise};
 
 /// The kind, the payload: which words of a box they are.
-const KIND: u64 = 1;
+pub(crate) const KIND: u64 = 1;
 
-const PAYLOAD: u64 = 2;
+pub(crate) const PAYLOAD: u64 = 2;
 /// The shared word of a dead box.
-const DEAD: u64 = 3;
+pub(crate) const DEAD: u64 = 3;
 
 /// What was read in a box, and after that, in this order.
 #[derive(Clone, Copy)]

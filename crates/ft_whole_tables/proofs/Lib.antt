@@ -18,3 +18,4 @@ pub mod KnownContents
 mod Compared
 -- clears
 mod Emptied
+mod SightScans

@@ -11,3 +11,4 @@ pub mod Comparisons
 pub mod Membership
 -- clears
 pub mod Clearing
+pub mod Sameness

@@ -183,7 +183,7 @@ fn find_value(bank: &Bank, pass: &mut Pass, d: Object, key: Key, hash: u64) -> O
 
 /// Whether this is the value that was found.
 #[tactic(auto, using(ft_reads::proofs::Equal::value_equal))]
-fn is_that(found: Option<Value>, value: Value) -> bool
+pub(crate) fn is_that(found: Option<Value>, value: Value) -> bool
     ensures { result ≡ option_map_or (λ (v : Value). is_value v value) found false }
 {
     match found {

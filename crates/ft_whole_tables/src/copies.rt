@@ -25,7 +25,7 @@ use ft_section::Object;
 use std::alloc::{AllocError, Global};
 
 /// Puts what was found at the end, if anything was. An `Err` says that there was no memory for it.
-fn push_found<T: Copy>(items: &mut Vec<T>, found: Option<T>) -> Result<(), AllocError>
+pub(crate) fn push_found<T: Copy>(items: &mut Vec<T>, found: Option<T>) -> Result<(), AllocError>
     ensures ok { OnOk result (items.new.items ≡ items.old.items ++ cons_option found []) }
     ensures err { OnErr result (is_some found ≡ true) }
 {

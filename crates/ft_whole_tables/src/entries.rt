@@ -23,7 +23,7 @@ use ft_search::{SeenValue, mask_of, see_value};
 use ft_section::Object;
 
 /// Where a word of an entry lies in a table.
-fn entry_at(bank: &Bank, table: Table, place: u64, word: u64) -> u64
+pub(crate) fn entry_at(bank: &Bank, table: Table, place: u64, word: u64) -> u64
     requires table { IsTableIn (shape_of bank.now) table }
     requires place { place < places (class_of (table_id table)) }
     requires word { word < 8 }
@@ -109,7 +109,7 @@ pub fn hash_at(bank: &Bank, pass: &mut Pass, o: Object, table: Table, place: u64
 }
 
 /// The key with the value, if there is one.
-fn with_value(key: Key, value: Option<Value>) -> Option<(Key, Value)>
+pub(crate) fn with_value(key: Key, value: Option<Value>) -> Option<(Key, Value)>
     ensures { result ≡ option_map (λ (v : Value). (key, v)) value }
 {
     match value {

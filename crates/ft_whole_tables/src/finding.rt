@@ -58,7 +58,7 @@ fn search(words: &mut TableWords, way: Way, key: Key, hash: u64) -> Found
 }
 
 /// Searches for a key in a table.
-fn search_table(
+pub(crate) fn search_table(
     bank: &Bank,
     pass: &mut Pass,
     o: Object,

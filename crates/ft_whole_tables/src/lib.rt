@@ -15,6 +15,8 @@ mod finding;
 mod items;
 mod membership;
 mod places;
+mod sameness;
+mod sights;
 
 pub use crate::clearing::{clear_keyed, root_table};
 pub use crate::clears::clear_as;
@@ -25,3 +27,5 @@ pub use crate::finding::find_key;
 pub use crate::items::{items_locked, look_all_items};
 pub use crate::membership::has_locked;
 pub use crate::places::{first_place, last_place};
+pub use crate::sameness::look_same;
+pub use crate::sights::look_pairs;

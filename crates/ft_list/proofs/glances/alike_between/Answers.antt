@@ -1,15 +1,38 @@
-use Rattle.std.proofs.Common.{◌≡◌}
+use Rattle.std.proofs.Common.{◌≡◌, ◌∙◌}
 use Rattle.ft_model.specs.Lists.{same_items}
 use Rattle.ft_bank.specs.Passes.{shape_of}
+use Rattle.ft_reads.proofs.SightWindows.{halted_both, opened_after, opened_beside, saw_through_both}
 use Rattle.ft_list.specs.Pairs.{AreOfItems}
-use Rattle.ft_reads.proofs.Windowed.{saw_both_between}
 use Rattle.ft_list.proofs.glances.alike_between.Goals as goal
 
-pub returns-clause-saw : goal.returns-clause-saw
-returns-clause-saw c =
+pub see_alike-requires-clause-opened : goal.see_alike-requires-clause-opened
+see_alike-requires-clause-opened c =
     let a = c.args in
     let k = shape_of a.bank.now in
-    saw_both_between k a.l a.m (AreOfItems k (λ items others. c.are_alike-alike.result ≡ same_items items others)) (record { opened = c.seq-opened.result; number = c.stamp-number.result; closed = c.seq-closed.result })
-    (record { opened = c.seq-other_opened.result; number = c.stamp-number.result; closed = c.seq-other_closed.result })
-    a.pass.now c.seq-opened.new.pass c.seq-other_opened.new.pass c.are_alike-alike.new.pass c.stamp-number.new.pass c.seq-other_closed.new.pass c.seq-closed.new.pass
-    c.seq-opened.ensures c.seq-other_opened.ensures c.are_alike-alike.ensures.reads c.stamp-number.ensures.did c.seq-other_closed.ensures c.seq-closed.ensures
+    opened_after k a.l c.seq-opened.result a.m c.seq-beside.result a.pass.now c.seq-opened.new.pass c.seq-beside.new.pass c.requires.container c.requires.online c.requires.settled c.requires.few c.seq-opened.ensures c.seq-beside.ensures
+
+pub see_alike-requires-clause-beside : goal.see_alike-requires-clause-beside
+see_alike-requires-clause-beside c =
+    let a = c.args in
+    let k = shape_of a.bank.now in
+    opened_beside k a.l c.seq-opened.result a.m c.seq-beside.result a.pass.now c.seq-opened.new.pass c.seq-beside.new.pass c.requires.other c.requires.online c.requires.settled c.requires.few c.seq-opened.ensures c.seq-beside.ensures
+
+pub returns-in-Ok-clause-saw : goal.returns-in-Ok-clause-saw
+returns-in-Ok-clause-saw c =
+    let a = c.args in
+    let k = shape_of a.bank.now in
+    saw_through_both k a.l a.m (AreOfItems k (λ items others. c.in-Ok.alike ≡ same_items items others)) (record { opened = c.seq-opened.result; number = c.stamp-number.result; closed = c.seq-closed.result })
+    (record { opened = c.seq-beside.result; number = c.stamp-number.result; closed = c.seq-other_closed.result })
+    a.pass.now c.seq-opened.new.pass c.seq-beside.new.pass c.see_alike.new.pass c.stamp-number.new.pass c.seq-other_closed.new.pass c.seq-closed.new.pass
+    c.seq-opened.ensures c.seq-beside.ensures c.in-Ok.ensures.sees c.stamp-number.ensures.did c.seq-other_closed.ensures c.seq-closed.ensures
+
+pub returns-in-Ok-clause-sections : goal.returns-in-Ok-clause-sections
+returns-in-Ok-clause-sections c = c.seq-closed.ensures.2 ∙ (c.seq-other_closed.ensures.2 ∙ (c.stamp-number.ensures.did.2 ∙ (c.in-Ok.ensures.sees.2.2 ∙ (c.seq-beside.ensures.2 ∙ c.seq-opened.ensures.2))))
+
+pub returns-in-Err-clause-saw : goal.returns-in-Err-clause-saw
+returns-in-Err-clause-saw c =
+    let a = c.args in
+    halted_both (shape_of a.bank.now) a.l a.m c.seq-opened.result c.seq-beside.result c.in-Err.stop a.pass.now c.seq-opened.new.pass c.seq-beside.new.pass c.see_alike.new.pass c.requires.pass.1 c.seq-opened.ensures c.seq-beside.ensures c.in-Err.ensures.sees
+
+pub returns-in-Err-clause-sections : goal.returns-in-Err-clause-sections
+returns-in-Err-clause-sections c = c.in-Err.ensures.sees.2.2 ∙ (c.seq-beside.ensures.2 ∙ c.seq-opened.ensures.2)

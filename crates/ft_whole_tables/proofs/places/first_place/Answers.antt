@@ -1,5 +1,4 @@
 use Rattle.std.proofs.Common.{◌≡◌, ◌+◌, Some, None, length, refl, sym, ◌∙◌, arith}
-use Rattle.std.specs.Prelude.{is_some}
 use Rattle.ft_bank.specs.Passes.{shape_of}
 use Rattle.ft_bank.specs.TableNames.{table_id}
 use Rattle.ft_whole_tables.specs.Places.{IsFirst, NoneThere}

@@ -1,0 +1,29 @@
+use Rattle.std.proofs.Common.{◌∙◌}
+use Rattle.ft_keys.specs.declared.walk.Way.TheVariants as way
+use Rattle.ft_bank.specs.Passes.{shape_of}
+use Rattle.ft_reads.proofs.SightWindows.{halted_stops, opened_by, saw_through}
+use Rattle.ft_whole_tables.specs.Items.{IsAllIn}
+use Rattle.ft_whole_tables.proofs.sights.pairs_between.Goals as goal
+
+pub see_all-requires-clause-opened : goal.see_all-requires-clause-opened
+see_all-requires-clause-opened c =
+    let a = c.args in
+    opened_by (shape_of a.bank.now) a.d c.seq-version.result a.pass.now c.seq-version.new.pass c.requires.container c.requires.online c.requires.settled c.requires.few c.seq-version.ensures
+
+pub returns-in-Ok-clause-saw : goal.returns-in-Ok-clause-saw
+returns-in-Ok-clause-saw c =
+    let a = c.args in
+    let k = shape_of a.bank.now in
+    saw_through k a.d (IsAllIn way.Dict k c.in-Ok.copy) (record { opened = c.seq-version.result; number = c.stamp-number.result; closed = c.seq-closed.result })
+    a.pass.now c.seq-version.new.pass c.see_all.new.pass c.stamp-number.new.pass c.seq-closed.new.pass c.seq-version.ensures c.in-Ok.ensures.sees c.stamp-number.ensures.did c.seq-closed.ensures
+
+pub returns-in-Ok-clause-sections : goal.returns-in-Ok-clause-sections
+returns-in-Ok-clause-sections c = c.seq-closed.ensures.2 ∙ (c.stamp-number.ensures.did.2 ∙ (c.in-Ok.ensures.sees.2.2 ∙ c.seq-version.ensures.2))
+
+pub returns-in-Err-clause-saw : goal.returns-in-Err-clause-saw
+returns-in-Err-clause-saw c =
+    let a = c.args in
+    halted_stops (shape_of a.bank.now) a.d c.seq-version.result c.in-Err.stop a.pass.now c.seq-version.new.pass c.see_all.new.pass c.requires.pass.1 c.seq-version.ensures c.in-Err.ensures.sees
+
+pub returns-in-Err-clause-sections : goal.returns-in-Err-clause-sections
+returns-in-Err-clause-sections c = c.in-Err.ensures.sees.2.2 ∙ c.seq-version.ensures.2

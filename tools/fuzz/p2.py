@@ -1,0 +1,21 @@
+from probe import probe
+from model import Name as N
+d,e,l,m=map(N,"delm")
+q=("quiesce",)
+A=lambda v:("append",m,v)
+U=[("setdefault",e,2,"x"),("update",d,e),("update",e,d)]
+print("plain", probe(U)[:2])
+print("with small in m", probe([A(1)]*9+[q]+U)[:2])
+print("with small in m, no quiesce", probe([A(1)]*9+U)[:2])
+print("with boxes in m", probe([A(1000)]*9+[q]+U)[:2])
+print("with 8 boxes in m", probe([A(1000)]*8+[q]+U)[:2])
+print("8 boxes, clear", probe([A(1000)]*8+[("clear",m),q]+U)[:2])
+print("8 boxes, clear, only update d e", probe([A(1000)]*8+[("clear",m),q]+U[:2])[:2])
+print("9 boxes, only update d e", probe([A(1000)]*9+[q]+U[:2])[:2])
+print("9 boxes, update d e, pop", probe([A(1000)]*9+[q]+U[:2]+[("pop",d,2)])[:2])
+print("9 boxes, update d e, set", probe([A(1000)]*9+[q]+U[:2]+[("set",d,2,"y")])[:2])
+print("9 boxes, update d e, pop e", probe([A(1000)]*9+[q]+U[:2]+[("pop",e,2)])[:2])
+print("9 boxes, setdef small, update", probe([A(1000)]*9+[q]+[("setdefault",e,2,7),("update",d,e),("update",e,d)])[:2])
+print("9 boxes, set both", probe([A(1000)]*9+[q]+[("set",e,2,1000),("set",d,2,7),("update",e,d)])[:2])
+print("9 boxes, set both", probe([A(1000)]*9+[q]+[("set",d,2,7),("set",e,2,1000),("update",e,d)])[:2])
+print("9 boxes, set both, del", probe([A(1000)]*9+[q]+[("set",d,2,7),("set",e,2,1000),("del",e,2)])[:2])
